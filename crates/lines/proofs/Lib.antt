@@ -1,0 +1,10 @@
+pub mod Bytes
+pub mod Cuts
+pub mod Digits
+pub mod Lefts
+pub mod Matches
+pub mod Prefixes
+pub mod Puts
+pub mod Records
+pub mod Rows
+pub mod Values

@@ -1,0 +1,13 @@
+pub mod Comparing
+pub mod Faults
+pub mod Fields
+pub mod Kinds
+pub mod Layout
+pub mod Matching
+pub mod Numbers
+pub mod Parts
+pub mod Peeks
+pub mod Readers
+pub mod Reading
+pub mod Reports
+pub mod Texts
