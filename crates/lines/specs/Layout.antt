@@ -101,10 +101,8 @@ recordOf line = ofParts (parts 9 line)
 -- the limits: a circuit of one to twelve lawful bytes, filled up; the limit and the chain in their ranges
 pub record Lawful (r : Record) : Type 0 where
   pub bytes : List ℕ
-  pub some : 1 ≤ length bytes
-  pub twelve : length bytes ≤ 12
-  pub all : every circuitByte bytes ≡ true
+  pub lawful : isCircuit bytes ≡ true
   pub circuit : r .circuit ≡ filled bytes
   pub limit : r .limit ≤ 2000000
-  pub chain-low : 1 ≤ r .chain
-  pub chain-high : r .chain ≤ 64
+  pub chain-some : 1 ≤ r .chain
+  pub chain : r .chain ≤ 64

@@ -2,6 +2,7 @@ pub mod Comparing
 pub mod Faults
 pub mod Fields
 pub mod Kinds
+pub mod Laws
 pub mod Layout
 pub mod Matching
 pub mod Numbers

@@ -3,6 +3,7 @@ pub mod comparing;
 pub mod faults;
 pub mod fields;
 pub mod kind;
+pub mod laws;
 pub mod matching;
 pub mod numbers;
 pub mod parsing;

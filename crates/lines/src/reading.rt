@@ -5,7 +5,8 @@ ghost use Prim.Native.Nat.{_+_, _^_, _<_, _≤_};
 ghost use lib.ListN.{length, drop};
 ghost use Rattle.std.specs.Options.{Cases};
 ghost use Rattle.std.specs.Results.{Cases as ByOk};
-ghost use Rattle.lines.specs.Layout.{recordOf};
+ghost use Rattle.std.specs.shelf.Lists.{All};
+ghost use Rattle.lines.specs.Layout.{Lawful, recordOf};
 ghost use Rattle.lines.specs.Readers.{left, rest, Leads, FieldsOf, Stepped, ReadAll, readingOf};
 ghost use Rattle.lines.specs.Peeks.{Peeked};
 use crate::faults::LineFault;
@@ -115,7 +116,8 @@ impl<'a> LineReader<'a> {
 
     /// The record of the next line, and none at the end of the file. At a refusal the reader stays at the line's start.
     pub fn next_line(&mut self) -> Result<Option<Record>, LineFault>
-        ensures { λ r. ⌜ Stepped (now (self .entry)) (now (self .exit)) r ⌝ }
+        ensures stepped { λ r. ⌜ Stepped (now (self .entry)) (now (self .exit)) r ⌝ }
+        ensures lawful { λ r. ⌜ ByOk r (λ o. Cases o (Unit {0}) Lawful) (λ _. Unit {0}) ⌝ }
     {
         match self.peek()? {
             None => Ok(None),
@@ -130,6 +132,7 @@ impl<'a> LineReader<'a> {
     /// lines' rows are written and no others, and the reader stays at the refused line's start.
     pub fn read_rows(&mut self, rows: &mut [Record]) -> Result<usize, LineFault>
         ensures read { λ r. ⌜ ReadAll (now (self .entry)) (now (self .exit)) (now (rows .entry)) (now (rows .exit)) r (readingOf (now (self .entry)) (length (now (rows .entry)))) ⌝ }
+        ensures lawful { λ _. ⌜ All Lawful (readingOf (now (self .entry)) (length (now (rows .entry))) .records) ⌝ }
         ensures within { λ r. ⌜ ByOk r (λ n. n ≤ length (now (rows .entry))) (λ _. Unit {0}) ⌝ }
     {
         let mut used = 0;
