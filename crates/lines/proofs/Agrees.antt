@@ -13,9 +13,8 @@ use Rattle.lines.specs.declared.faults.LineFault.{LineFault}
 use Rattle.lines.specs.declared.record.Record.{Record}
 use Rattle.lines.specs.Laws.{Same-answer}
 use Rattle.lines.specs.Layout.{recordOf}
-use Rattle.lines.specs.Matching.{readWhole}
 use Rattle.lines.specs.Parts.{onto, parts}
-use Rattle.lines.specs.Reading.{Reading, with, atRow, reading}
+use Rattle.lines.specs.Reading.{Reading, with, atRow, reading, readWhole}
 use Rattle.lines.proofs.Cuts.{parts-some}
 
 -- ---- the parts of two lists with a byte between them

@@ -10,6 +10,7 @@ use Rattle.std.specs.declared.option.Option.{Option}
 use Rattle.std.specs.declared.option.Option.the-variants.{Some, None}
 use Rattle.std.specs.shelf.Lists.{All}
 use Rattle.std.proofs.shelf.Tests.{and-parts, leb-true}
+use Rattle.lines.specs.declared.kind.Kind.{Kind}
 use Rattle.lines.specs.declared.record.Record.{Record}
 use Rattle.lines.specs.Layout.{given, when, isCircuit, circuitOf, kindOfOne, numberOf, limitOf, chainOf, toRecord, ofFields, ofParts, recordOf, Lawful}
 use Rattle.lines.specs.declared.reader.LineReader.{LineReader}
@@ -45,23 +46,25 @@ chain-in bs n h =
     let t = and-parts (leb 1 (p .0)) (leb (p .0) 64) (q .0) in
     (omega (arith, leb-true 1 (p .0) (t .0), q .1), omega (arith, leb-true (p .0) 64 (t .1), q .1))
 
+to-record : (c bs : List ℕ) (k : Kind) (n m : ℕ) → when (isCircuit c) c ≡ Some bs → n ≤ 2000000 → (1 ≤ m) × (m ≤ 64) → Lawful (toRecord bs k n m)
+to-record c bs k n m circuit limit chain =
+    let w = when-some (isCircuit c) c bs circuit in
+    record {
+      bytes = bs;
+      lawful = subst (λ x. isCircuit x ≡ true) (w .1) (w .0);
+      circuit = refl;
+      limit = limit;
+      chain-some = chain .0;
+      chain = chain .1;
+    }
+
 of-fields : (c k l h : List ℕ) (r : Record) → ofFields c k l h ≡ Some r → Lawful r
 of-fields c k l h r e =
     let p = given-some (circuitOf c) (λ bs. given (kindOfOne k) (λ x. given (limitOf l) (λ n. given (chainOf h) (λ m. Some (toRecord bs x n m))))) r e in
     let q = given-some (kindOfOne k) (λ x. given (limitOf l) (λ n. given (chainOf h) (λ m. Some (toRecord (p .0) x n m)))) r (p .2) in
     let s = given-some (limitOf l) (λ n. given (chainOf h) (λ m. Some (toRecord (p .0) (q .0) n m))) r (q .2) in
     let t = given-some (chainOf h) (λ m. Some (toRecord (p .0) (q .0) (s .0) m)) r (s .2) in
-    let is : toRecord (p .0) (q .0) (s .0) (t .0) ≡ r = same-some (toRecord (p .0) (q .0) (s .0) (t .0)) r (t .2) in
-    let w = when-some (isCircuit c) c (p .0) (p .1) in
-    let chain = chain-in h (t .0) (t .1) in
-    subst Lawful is record {
-      bytes = p .0;
-      lawful = subst (λ bs. isCircuit bs ≡ true) (w .1) (w .0);
-      circuit = refl;
-      limit = limit-in l (s .0) (s .1);
-      chain-some = chain .0;
-      chain = chain .1;
-    }
+    subst Lawful (same-some (toRecord (p .0) (q .0) (s .0) (t .0)) r (t .2)) (to-record c (p .0) (q .0) (s .0) (t .0) (p .1) (limit-in l (s .0) (s .1)) (chain-in h (t .0) (t .1)))
 
 of-parts : (ps : List (List ℕ)) (r : Record) → ofParts ps ≡ Some r → Lawful r
 of-parts [] r e = let z : _≡_ {A = ℕ} 0 1 = cc in absurd (omega arith)

@@ -1,12 +1,8 @@
 pub mod Agrees
 pub mod Bytes
 pub mod Cuts
-pub mod Digits
 pub mod Lawfuls
 pub mod Lefts
-pub mod Matches
-pub mod Prefixes
-pub mod Puts
 pub mod Records
 pub mod Rows
 pub mod Values

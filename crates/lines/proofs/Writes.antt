@@ -19,12 +19,12 @@ use Rattle.lines.specs.declared.record.Record.{Record}
 use Rattle.lines.specs.Kinds.{letterOf}
 use Rattle.lines.specs.Laws.{padded, Says, fileOf, Reads-back}
 use Rattle.lines.specs.Layout.{every, given, when, circuitByte, isCircuit, circuitOf, kindOfOne, digitOf, valueFrom, numberOf, limitOf, chainOf, toRecord, ofFields, ofParts, recordOf}
-use Rattle.lines.specs.Numbers.{digits}
+use Rattle.texts.specs.Numbers.{digits}
 use Rattle.lines.specs.Parts.{onto, parts}
 use Rattle.lines.specs.Reading.{Reading, with, atRow, reading}
 use Rattle.lines.proofs.Agrees.{parts-append, reading-line}
 use Rattle.lines.proofs.Cuts.{parts-some}
-use Rattle.lines.proofs.Digits.{digits-is}
+use Rattle.texts.proofs.Digits.{digits-is}
 use Rattle.lines.proofs.Lawfuls.{given-some}
 use Rattle.lines.proofs.Records.{same-record}
 

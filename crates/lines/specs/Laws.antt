@@ -14,9 +14,8 @@ use Rattle.lines.specs.declared.faults.LineFault.{LineFault}
 use Rattle.lines.specs.declared.record.Record.{Record}
 use Rattle.lines.specs.Kinds.{letterOf}
 use Rattle.lines.specs.Layout.{isCircuit, filled}
-use Rattle.lines.specs.Matching.{readWhole}
-use Rattle.lines.specs.Numbers.{digits}
-use Rattle.lines.specs.Reading.{Reading}
+use Rattle.texts.specs.Numbers.{digits}
+use Rattle.lines.specs.Reading.{Reading, readWhole}
 
 -- a number behind some zeros
 abbrev pub padded : ℕ → ℕ → List ℕ

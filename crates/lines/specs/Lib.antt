@@ -1,14 +1,9 @@
-pub mod Comparing
 pub mod Faults
 pub mod Fields
 pub mod Kinds
 pub mod Laws
 pub mod Layout
-pub mod Matching
-pub mod Numbers
 pub mod Parts
 pub mod Peeks
 pub mod Readers
 pub mod Reading
-pub mod Reports
-pub mod Texts

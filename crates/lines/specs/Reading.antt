@@ -1,6 +1,7 @@
 -- Reading a file of lines. Assumes nothing.
 -- A file is cut at each byte 10. The last part has to be empty, since each line is ended by such a byte; the others are its lines.
 --     next n ps             what the next line, number n, says where the parts of what is left are ps
+--     readWhole file free   what reading a whole file does, with `free` rows
 --     reading n p free ps   what reading all that is left does, after n lines and from the place p on, with `free` rows
 use mathlib.Core.Path.{_≡_}
 use mathlib.Core.List.{List, [], _∷_}
@@ -81,3 +82,7 @@ abbrev pub reading : ℕ → ℕ → ℕ → List (List ℕ) → Reading
 reading lines place free [] = stopped place lines None
 reading lines place free (p ∷ []) = stopped place lines (refusalAtEnd (lines + 1) p)
 reading lines place free (p ∷ (q ∷ ps)) = atRow (recordOf p) lines place free (λ left. reading (lines + 1) (place + length p + 1) left (q ∷ ps))
+
+-- a whole file
+abbrev pub readWhole : List ℕ → ℕ → Reading
+readWhole file free = reading 0 0 free (parts 10 file)

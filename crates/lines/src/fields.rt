@@ -34,7 +34,7 @@ pub struct Fields<'a> {
 }
 
 /// Where the byte `b` first stands.
-pub fn find_byte(bytes: &[u8], b: u8) -> Option<usize>
+pub(crate) fn find_byte(bytes: &[u8], b: u8) -> Option<usize>
     ensures { λ r. ⌜ Cases r (parts b (now (bytes .entry)) ≡ now (bytes .entry) ∷ []) (λ n. FirstAt b (now (bytes .entry)) n) ⌝ }
 {
     for (i, x) in bytes.iter().enumerate() {
@@ -46,7 +46,7 @@ pub fn find_byte(bytes: &[u8], b: u8) -> Option<usize>
 }
 
 /// What stands before the first byte `b`, and what stands behind it.
-pub fn cut_at(bytes: &[u8], b: u8) -> Option<(&[u8], &[u8])>
+pub(crate) fn cut_at(bytes: &[u8], b: u8) -> Option<(&[u8], &[u8])>
     ensures { λ r. ⌜ Cases r (parts b (now (bytes .entry)) ≡ now (bytes .entry) ∷ []) (λ p. CutAt b (now (bytes .entry)) (now (p .0)) (now (p .1))) ⌝ }
 {
     let n = find_byte(bytes, b)?;

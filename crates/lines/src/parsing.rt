@@ -156,7 +156,7 @@ fn chain_in(field: Field) -> Option<u8>
 }
 
 /// The record that the fields say, if each is lawful.
-pub fn record_of(fields: Fields) -> Option<Record>
+pub(crate) fn record_of(fields: Fields) -> Option<Record>
     ensures { λ r. ⌜ r ≡ readFields (fields .entry) ⌝ }
 {
     let circuit = circuit_in(fields.circuit.field)?;

@@ -36,31 +36,6 @@ fn record_in(line: &[u8], place: usize) -> Option<Record>
 }
 
 impl<'a> LineReader<'a> {
-    /// A reader at the start of the file.
-    pub fn new(file: &'a [u8]) -> LineReader<'a>
-        ensures { λ r. ⌜ (now (r .file) ≡ now (file .entry)) × (r .place ≡ 0) × (r .lines ≡ 0) ⌝ }
-    {
-        LineReader {
-            file,
-            place: 0,
-            lines: 0,
-        }
-    }
-
-    /// Where in the file the reader stands.
-    pub fn place(&self) -> usize
-        ensures { λ r. ⌜ r ≡ now (self .entry) .place ⌝ }
-    {
-        self.place
-    }
-
-    /// How many lines are read.
-    pub fn lines(&self) -> usize
-        ensures { λ r. ⌜ r ≡ now (self .entry) .lines ⌝ }
-    {
-        self.lines
-    }
-
     /// The line at which the reader stands, without its end.
     fn line(&self) -> Option<&'a [u8]>
         ensures { λ r. ⌜ Cases r (left (now (self .entry)) ≡ rest (now (self .entry)) ∷ []) (λ l. Leads (now (self .entry)) (now l)) ⌝ }
@@ -121,9 +96,9 @@ impl<'a> LineReader<'a> {
     {
         match self.peek()? {
             None => Ok(None),
-            Some(line) => {
-                self.pass(line.size);
-                Ok(Some(line.record))
+            Some(found) => {
+                self.pass(found.size);
+                Ok(Some(found.record))
             }
         }
     }

@@ -1,19 +1,19 @@
 //! Whole files: rows, refusals and where the reader stands.
-use lines::faults::FileFault;
-use lines::faults::FileFaultDebug;
-use lines::faults::FileFaultPartialEq;
 use lines::faults::LineFault;
 use lines::faults::LineFaultDebug;
 use lines::faults::LineFaultPartialEq;
-use lines::matching::match_files;
-use lines::matching::read_delivery;
 use lines::reader::LineReader;
 use lines::record::Record;
-use lines::report::DeliveredFile;
-use lines::report::Outcome;
-use lines::report::OutcomeDebug;
-use lines::report::OutcomePartialEq;
+use matching::faults::FileFault;
+use matching::faults::FileFaultDebug;
+use matching::faults::FileFaultPartialEq;
+use matching::matching::match_files;
+use matching::matching::read_delivery;
 use std::test::*;
+use texts::report::DeliveredFile;
+use texts::report::Outcome;
+use texts::report::OutcomeDebug;
+use texts::report::OutcomePartialEq;
 
 /// 129 lines of eight bytes each.
 fn many_lines() -> [u8; 1032] {

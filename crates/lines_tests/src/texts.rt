@@ -1,9 +1,9 @@
 //! Numbers and reports.
-use lines::numbers::write_number;
-use lines::report::DeliveredFile;
-use lines::report::Outcome;
-use lines::report::report;
 use std::test::*;
+use texts::numbers::write_number;
+use texts::report::DeliveredFile;
+use texts::report::Outcome;
+use texts::report::report;
 
 /// The number's digits stand at the second place, and all else is as it was.
 fn is_written(n: u64, text: &[u8]) -> Result<(), Fail> {

@@ -3,13 +3,13 @@ ghost use Prim.Native.Nat.{_≤_};
 ghost use lib.ListN.{take};
 ghost use mathlib.Core.Path.{_≡_};
 ghost use Rattle.std.specs.Options.{Cases, mapped};
-use lines::matching::match_files;
 use lines::record::Record;
-use lines::report::report;
+use matching::matching::match_files;
 use std::fs::File;
 use std::io;
 use std::io::Read;
 use std::io::Write;
+use texts::report::report;
 
 /// One byte more than a delivered file may have, so that a longer one is seen to be longer.
 const SPACE: usize = 4097;

@@ -1,5 +1,0 @@
-use Rattle.lines.proofs.Matches.{matched}
-use Rattle.lines.proofs.matching.match_files.Needs as need
-
-pub returns : need.returns
-returns c = matched _ _ _ _ _ _ _ _ _ (c .in-Ok .ensures tt .delivered) (c .in-Ok-read-delivery .ensures tt .delivered) (c .compare .ensures)
