@@ -5,5 +5,6 @@ pub mod Lawfuls
 pub mod Lefts
 pub mod Records
 pub mod Rows
+pub mod Spellings
 pub mod Values
 pub mod Writes

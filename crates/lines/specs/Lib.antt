@@ -1,5 +1,6 @@
 pub mod Faults
 pub mod Fields
+pub mod Keys
 pub mod Kinds
 pub mod Laws
 pub mod Layout

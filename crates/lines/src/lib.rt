@@ -7,3 +7,4 @@ pub(crate) mod parsing;
 pub mod reader;
 pub mod reading;
 pub mod record;
+pub mod record_key;

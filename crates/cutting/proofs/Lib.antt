@@ -1,0 +1,13 @@
+pub mod Bits
+pub mod Machine
+pub mod Apart
+pub mod Places
+pub mod Near
+pub mod Passes
+pub mod Seen
+pub mod Six
+pub mod Parts
+pub mod Fits
+pub mod Splices
+pub mod Steps
+pub mod Repeats

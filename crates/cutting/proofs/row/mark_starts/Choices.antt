@@ -1,0 +1,12 @@
+use Prim.Native.Nat.{ℕ, _≤_}
+use mathlib.Core.Path.{_≡_}
+use lib.ListN.{length}
+use Rattle.cutting.specs.Rule.{left, peak}
+use Rattle.cutting.specs.Rows.{at, mark, Front}
+use Rattle.cutting.proofs.row.mark_starts.Given as given
+
+abbrev pub Inv-loop-i : given.InvT-loop-i
+Inv-loop-i l =
+    (l .before ≡ left (at (l .entry .colours)) (l .i))
+    × ((k : ℕ) → l .i ≤ k → at (l .colours) k ≡ at (l .entry .colours) k)
+    × Front (l .i) (l .colours) (λ k. mark (peak (length (l .entry .colours)) (at (l .entry .colours)) k))

@@ -1,0 +1,11 @@
+pub mod Rule
+pub mod Rows
+pub mod Passes
+pub mod Colours
+pub mod Locality
+pub mod Blocks
+pub mod Splice
+pub mod Window
+pub mod Walk
+pub mod Runs
+pub mod Worked

@@ -1,0 +1,5 @@
+pub mod Held
+pub mod Numbers
+pub mod Orders
+pub mod Runs
+pub mod Spelling

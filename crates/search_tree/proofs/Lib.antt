@@ -1,0 +1,4 @@
+pub mod Finds
+pub mod Grows
+pub mod Hung
+pub mod Walks

@@ -1,0 +1,4 @@
+pub mod Bits
+pub mod Trie
+pub mod TrieFacts
+pub mod TrieMeaning
