@@ -1,0 +1,5 @@
+//! The scheme of block signatures: compositions, and building a list.
+pub mod composition;
+pub mod composition_key;
+pub mod faults;
+pub mod laws;
