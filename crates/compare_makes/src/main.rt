@@ -1,5 +1,7 @@
 // Reads a script of dictionary calls from standard input, carries it out on a search tree and a trie of bytes side by
 // side, and prints their answers.
+#![tactic(auto)]
+
 use dictionary::Call;
 use script::Command;
 use show::print_run;

@@ -2,6 +2,8 @@
 //!
 //! The rule knows names only as numbers. `block_starts` marks the blocks of a whole row, `Window` those of a part of a row, `next_block` walks a row
 //! and its marks block by block, and `laws` has what follows from the rule.
+#![tactic(auto)]
+
 mod colours;
 pub mod laws;
 pub mod row;

@@ -1,4 +1,6 @@
 // Dictionaries: keys, numbered from 1 in the order of their arrival.
+#![tactic(auto)]
+
 ghost use Rattle.std.specs.Prelude.{◌≡◌, ◌^◌, ◌<◌, ◌≤◌, length};
 ghost use Rattle.dictionary.specs.Does.{Does};
 ghost use Rattle.dictionary.specs.Meaning.{Meaning, Different, finding, naming, keying};

@@ -1,4 +1,5 @@
 //! What every refusal tells: a number, a layer and a place.
+#![tactic(auto)]
 
 /// Where a refusal is checked.
 #[derive(Clone, Copy, Debug, PartialEq, Eq)]

@@ -1,4 +1,6 @@
 //! Line files: the line record and the reader of a file of lines.
+#![tactic(auto)]
+
 pub mod faults;
 pub mod fields;
 pub mod kind;

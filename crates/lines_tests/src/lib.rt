@@ -1,4 +1,5 @@
 //! Tests of the crate `lines`: tables of lines and files, and what they give.
+#![tactic(auto)]
 
 #[cfg(test)]
 mod files;

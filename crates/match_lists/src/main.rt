@@ -1,4 +1,6 @@
 //! Matches the two files of a sector, `magnets.txt` and `interlock.txt`, and prints one line.
+#![tactic(auto)]
+
 ghost use Rattle.std.specs.Prelude.{◌≡◌, ◌≤◌, take, IfSome};
 ghost use Rattle.std.specs.Option.{option_map};
 

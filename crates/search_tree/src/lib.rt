@@ -1,4 +1,6 @@
 // A search tree over lent rows: a dictionary that uses only the order of its keys.
+#![tactic(auto)]
+
 pub use row::TreeRow;
 pub use tree::SearchTree;
 

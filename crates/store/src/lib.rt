@@ -1,4 +1,6 @@
 //! The list store: a book of versions over two dictionaries.
+#![tactic(auto)]
+
 pub mod beginning;
 pub mod book;
 mod checks;

@@ -1,4 +1,6 @@
 // A crit-bit trie over lent rows: a dictionary that uses only the spelling of its keys.
+#![tactic(auto)]
+
 pub use patricia::Trie;
 pub use row::TrieRow;
 
