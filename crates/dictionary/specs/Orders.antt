@@ -3,30 +3,21 @@ use Rattle.std.specs.Prelude.{◌≡◌, ℕ, ◌<◌, List, [], ◌∷◌, refl
 use Rattle.std.specs.declared.cmp.Ordering.TheVariants.{Less, Equal, Greater}
 use Rattle.std.specs.declared.cmp.Ordering.{Ordering}
 use Rattle.std.proofs.Common.{sym, ap, subst, ◌∙◌, true≢false}
-use Rattle.std.specs.Cmp.{IsTotalOrder, ranks}
+use Rattle.std.specs.Cmp.{IsTotalOrder, ranks, tied_itself}
 use Rattle.std.specs.Ordering.{MatchOrdering, is_lt, is_gt, ordering_reverse, ordering_then, nat_cmp}
 use Rattle.std.specs.Cmp.Lexicographic.{slice_cmp}
-
--- a total order of std's, as the answers that are its own
-pub settled : {K : Type 0} {R : K → K → Ordering → Type 0} (t : IsTotalOrder R) → IsTotalOrder (λ (x y : K) (o : Ordering). o ≡ R x y)
-settled t = record { cmp = t.cmp; says = λ x y o e. e; flip = t.antisymm; trans = t.trans; alike = t.congr }
 
 -- numbers that the order of numbers calls equal are the same
 pub same_number : (x y : ℕ) → nat_cmp x y ≡ Equal → x ≡ y
 same_number x y e = subst (λ o. MatchOrdering o (x < y) (x ≡ y) (y < x)) e (ranks x y)
 
-unturned : (o : Ordering) → o ≡ ordering_reverse o → o ≡ Equal
-unturned Less h = absurd (true≢false (ap is_lt h))
-unturned Equal h = refl
-unturned Greater h = absurd (true≢false (ap is_gt h))
-
 -- an order with the laws of a key type says equal of a value and itself
-pub itself : {K : Type 0} (order : K → K → Ordering) → IsTotalOrder (λ (x y : K) (o : Ordering). o ≡ order x y) → (x : K) → order x x ≡ Equal
-itself order t x = t.says x x (order x x) refl ∙ unturned (t.cmp x x) (t.antisymm x x)
+pub itself : {K : Type 0} (order : K → K → Ordering) → IsTotalOrder order → (x : K) → order x x ≡ Equal
+itself order t x = tied_itself t x
 
 -- an order of the parts that a value has
-pub by_parts : {K P : Type 0} (parts : K → P) {R : P → P → Ordering → Type 0} (t : IsTotalOrder R) → IsTotalOrder (λ (x y : K) (o : Ordering). o ≡ R (parts x) (parts y))
-by_parts parts t = record { cmp = λ x y. t.cmp (parts x) (parts y); says = λ x y o e. e; flip = λ x y. t.antisymm (parts x) (parts y); trans = λ x y z. t.trans (parts x) (parts y) (parts z); alike = λ x y z. t.congr (parts x) (parts y) (parts z) }
+pub by_parts : {K P : Type 0} (parts : K → P) {R : P → P → Ordering} (t : IsTotalOrder R) → IsTotalOrder (λ (x y : K). R (parts x) (parts y))
+by_parts parts t = record { antisymm = λ x y. t.antisymm (parts x) (parts y); trans = λ x y z. t.trans (parts x) (parts y) (parts z); congr = λ x y z. t.congr (parts x) (parts y) (parts z) }
 
 -- of two answers in turn, both are equal if the whole is
 pub both_equal : (a b : Ordering) → ordering_then a b ≡ Equal → (a ≡ Equal) × (b ≡ Equal)

@@ -2,7 +2,7 @@
 ghost use Rattle.std.specs.Prelude.{[], ◌∷◌};
 ghost use Rattle.std.specs.Ordering.{nat_cmp};
 ghost use Rattle.std.specs.Cmp.{nat_cmp_total};
-ghost use Rattle.dictionary.specs.Orders.{settled, same_number};
+ghost use Rattle.dictionary.specs.Orders.{same_number};
 ghost use Rattle.std.proofs.Common.{rules};
 
 use crate::key::Key;
@@ -15,7 +15,7 @@ impl Key for u8 {
 
     ghost size = { 1 };
 
-    ghost total = { settled nat_cmp_total };
+    ghost total = { nat_cmp_total };
 
     ghost same = { same_number };
 

@@ -27,8 +27,8 @@ pub trait Key: Copy {
     fn byte(&self, i: usize) -> u8
         ensures { result ≡ slice_index (spelling self.now) i };
 
-    // One of std's total orders, which answers as `order` does. It follows that a value is equal to itself.
-    ghost total: { IsTotalOrder (λ (x y : Self) (o : Order). o ≡ order x y) };
+    // One of std's total orders. It follows that a value is equal to itself.
+    ghost total: { IsTotalOrder order };
 
     ghost same: { (x y : Self) → order x y ≡ Equal → x ≡ y };
 

@@ -1,12 +1,15 @@
 -- Records: equal where their fields are, compared, and put together from what four fields say.
-use Rattle.std.specs.Prelude.{◌≡◌, ℕ, Bool, true, false, cond, ◌&&◌, List, [], ◌∷◌, ◌++◌, length, Some, None, Decides, Option, refl}
+use Rattle.std.specs.Prelude.{◌≡◌, ℕ, Bool, true, false, cond, ◌&&◌, List, [], ◌∷◌, ◌++◌, length, Some, None, Decides, Option, refl, nat_eq, ◌==◌}
 use Rattle.std.proofs.Common.{sym, ap, ◌∙◌, arith}
 use mathlib.Core.HLevel.{is_prop→PathP}
 use denote.Struct.Props.{props}
 use Rattle.std.specs.Option.{option_map}
-use Rattle.std.proofs.lemmas.Bool.{false≢true}
 use Rattle.std.proofs.lemmas.Bool.Decides.{Decides-and, Decides-like}
+use Rattle.std.specs.Cmp.{IsPartialEquivalence, decided, partial_equiv_from_equiv, unsigned_Decides}
+use Rattle.std.specs.Cmp.Lexicographic.{pointwise, pointwise_decides}
 use Rattle.lines.specs.declared.kind.Kind.{Kind}
+use Rattle.lines.specs.declared.kind.Kind.TheVariants.{Dipole, Quadrupole, Sextupole, Steerer}
+use Rattle.lines.specs.Kinds.{letter_of, kind_of}
 use Rattle.lines.specs.declared.record.Record.{Record}
 use Rattle.lines.specs.Layout.{given, filled, to_record}
 
@@ -35,7 +38,27 @@ same_decides x y a b c d p q r s =
     (λ e. (ap (λ z. z.circuit) e, (ap (λ z. z.kind) e, (ap (λ z. z.limit) e, ap (λ z. z.chain) e))))
     (Decides-and a (b && (c && d)) p (Decides-and b (c && d) q (Decides-and c d r s)))
 
--- what a derived `==` says
-pub decides_from_cond : {P : Type 0} (r : Bool) → cond r P (P → ⊥) → Decides r P
-decides_from_cond true h = (λ _. h, λ _. refl)
-decides_from_cond false h = (λ e. absurd (false≢true e), λ p. absurd (h p))
+-- ---- equality, field by field
+
+kind_back : (k : Kind) → kind_of (letter_of k) ≡ Some k
+kind_back Dipole = refl
+kind_back Quadrupole = refl
+kind_back Sextupole = refl
+kind_back Steerer = refl
+
+pub same_kind : (k l : Kind) → letter_of k ≡ letter_of l → k ≡ l
+same_kind k l e = let p = sym (kind_back k) ∙ ap kind_of e ∙ kind_back l in cc p
+
+abbrev pub same_fields : Record → Record → Bool
+same_fields x y = pointwise nat_eq x.circuit y.circuit && (letter_of x.kind == letter_of y.kind && (x.limit == y.limit && x.chain == y.chain))
+
+pub same_fields_decides : (x y : Record) → Decides (same_fields x y) (x ≡ y)
+same_fields_decides x y =
+    same_decides x y _ _ _ _
+    (pointwise_decides unsigned_Decides x.circuit y.circuit)
+    (Decides-like (letter_of x.kind == letter_of y.kind) (same_kind x.kind y.kind) (ap letter_of) (unsigned_Decides (letter_of x.kind) (letter_of y.kind)))
+    (unsigned_Decides x.limit y.limit)
+    (unsigned_Decides x.chain y.chain)
+
+pub same_fields_laws : IsPartialEquivalence same_fields
+same_fields_laws = partial_equiv_from_equiv (decided same_fields same_fields_decides)

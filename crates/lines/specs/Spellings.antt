@@ -6,23 +6,12 @@ use Rattle.std.proofs.lemmas.List.{take_at, drop_at, get_or_append_left, get_or-
 use Rattle.dictionary.specs.Spelling.{four}
 use Rattle.dictionary.specs.Orders.{both_equal, same_number, same_list}
 use Rattle.dictionary.proofs.Spelling.{four_apart}
-use Rattle.lines.specs.declared.kind.Kind.{Kind}
-use Rattle.lines.specs.declared.kind.Kind.TheVariants.{Dipole, Quadrupole, Sextupole, Steerer}
 use Rattle.lines.specs.declared.record.Record.{Record}
 use Rattle.lines.specs.Keys.{in_parts, in_order, behind, spelled}
-use Rattle.lines.specs.Kinds.{letter_of, kind_of}
-use Rattle.lines.specs.Records.{same_record}
+use Rattle.lines.specs.Kinds.{letter_of}
+use Rattle.lines.specs.Records.{same_record, same_kind}
 use Rattle.std.specs.Ordering.{nat_cmp, ordering_then}
 use Rattle.std.specs.Cmp.Lexicographic.{slice_cmp}
-
-kind_back : (k : Kind) → kind_of (letter_of k) ≡ Some k
-kind_back Dipole = refl
-kind_back Quadrupole = refl
-kind_back Sextupole = refl
-kind_back Steerer = refl
-
-same_kind : (k l : Kind) → letter_of k ≡ letter_of l → k ≡ l
-same_kind k l e = let p = sym (kind_back k) ∙ ap kind_of e ∙ kind_back l in cc p
 
 pub same_key : (x y : Record) → in_order x y ≡ Equal → x ≡ y
 same_key x y h =

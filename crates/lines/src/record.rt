@@ -1,7 +1,6 @@
 //! The line record: one circuit of a sector.
 ghost use Rattle.std.specs.Prelude.{◌≡◌, ◌&&◌, length, replicate, Decides};
-ghost use Rattle.std.specs.Cmp.Rules.{comparing};
-ghost use Rattle.std.proofs.Common.{rules, arith};
+ghost use Rattle.lines.specs.Records.{same_fields, same_fields_laws};
 
 use crate::kind::Kind;
 
@@ -39,11 +38,14 @@ fn all_four(a: bool, b: bool, c: bool, d: bool) -> bool
 }
 
 impl PartialEq for Record {
-    ghost equals = { λ x y r. Decides r (x ≡ y) };
+    ghost eq = { same_fields };
 
-    ghost laws = { first_of (Prim.search (comparing, rules), Prim.grind (arith, Self.row.coded.inj)) };
+    ghost laws = { same_fields_laws };
 
-    fn eq(&self, other: &Record) -> bool {
+    fn eq(&self, other: &Record) -> bool
+        ensures answers { result ≡ same_fields self.now other.now }
+        ensures decides { Decides result (self.now ≡ other.now) }
+    {
         let circuit = self.circuit == other.circuit;
         let kind = self.kind == other.kind;
         let limit = self.limit == other.limit;

@@ -20,7 +20,7 @@ pub returns : goal.returns
 returns g c =
     let tree = c.new-tree.ensures in
     let trie = c.new-trie.ensures in
-    let both = c.side-by-side.ensures in
+    let both = c.side_by_side.ensures in
     record {
       tree = carried g.K.Key.order _ _ _ _ _ _ _ _ tree.meaning (both.left tree.sound) c.size.ensures c.asks.ensures;
       trie = carried g.K.Key.order _ _ _ _ _ _ _ _ trie.meaning (both.right trie.sound) c.size-2.ensures c.asks-2.ensures;

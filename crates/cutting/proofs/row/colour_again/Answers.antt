@@ -15,7 +15,7 @@ loop-i-preserved c =
     let new : c.if-i-eq0.colours ≡ recolour f i =
     elim c.if-i-eq0.branch [
       | then-i-eq0 w ↦ w.colours-is ∙ ap (λ x. x % 2) (s i (omega arith)) ∙ recolour_first f i w.if-i-eq0.true
-      | else-i-eq0 w ↦ w.colours-is ∙ w.fresh-colour.ensures ∙ ap₂ fresh (s (i - 1) (omega arith)) (s i (omega arith)) ∙ recolour_at f i w.if-i-eq0.false
+      | else-i-eq0 w ↦ w.colours-is ∙ w.fresh_colour.ensures ∙ ap₂ fresh (s (i - 1) (omega arith)) (s i (omega arith)) ∙ recolour_at f i w.if-i-eq0.false
     ] in (
       λ k h. at_put (λ k v. v ≡ f k) c.loop-i.colours i c.if-i-eq0.colours k (omega arith) (λ e. absurd (omega arith)) (λ ne. s k (omega arith)),
       λ k h g. let l = simp length-set at g in

@@ -14,7 +14,7 @@ loop-i-preserved c =
     let new : c.if-i-eq0.colours ≡ recolour f i =
     elim c.if-i-eq0.branch [
       | then-i-eq0 w ↦ w.colours-is ∙ recolour_first f i w.if-i-eq0.true
-      | else-i-eq0 w ↦ w.colours-is ∙ w.fresh-colour.ensures ∙ recolour_at f i w.if-i-eq0.false
+      | else-i-eq0 w ↦ w.colours-is ∙ w.fresh_colour.ensures ∙ recolour_at f i w.if-i-eq0.false
     ] in
     front_put (recolour f) c.loop-i.colours i c.if-i-eq0.colours (omega arith) c.loop-i.invariant new
 

@@ -30,10 +30,10 @@ loop-i-preserved c =
       ]),
       λ k h. elim c.if-own-k.branch [
         | then-own-k w ↦ ap (λ l. at l k) w.colours-is
-            ∙ front_put (reduce n q f) xs i w.free-colour.result (omega arith) c.loop-i.invariant.2
-            (w.free-colour.ensures
-            ∙ reduce_here n q f i c.loop-i.before w.right-of.result (sym own ∙ w.if-own-k.true) c.loop-i.invariant.0
-            (w.right-of.ensures ∙ ap (λ m. right m (at xs) i) c.loop-i.auto.colours ∙ rgt)) k h
+            ∙ front_put (reduce n q f) xs i w.free_colour.result (omega arith) c.loop-i.invariant.2
+            (w.free_colour.ensures
+            ∙ reduce_here n q f i c.loop-i.before w.right_of.result (sym own ∙ w.if-own-k.true) c.loop-i.invariant.0
+            (w.right_of.ensures ∙ ap (λ m. right m (at xs) i) c.loop-i.auto.colours ∙ rgt)) k h
         | else-own-k w ↦ ap (λ l. at l k) w.colours-is
             ∙ ⊎_elim (λ (e : k ≡ i). ap (at xs) e ∙ own ∙ reduce_kept n q f i (λ z. w.if-own-k.false (own ∙ z)) ∙ ap (reduce n q f) (sym e))
             (λ (ne : k ≢ i). c.loop-i.invariant.2 k (omega arith)) (cases_eq k i)

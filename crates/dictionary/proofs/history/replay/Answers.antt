@@ -4,9 +4,6 @@ use Rattle.dictionary.specs.Histories.{Ran}
 use Rattle.dictionary.proofs.Runs.{going_on, ran, ran_keeps}
 use Rattle.dictionary.proofs.history.replay.Goals as goal
 
-pub offset-bounds-answers-i : goal.offset-bounds-answers-i
-offset-bounds-answers-i g c = let h : c.loop-i.i < length c.args.answers.now = omega (arith, c.loop-i.auto.answers) in search rules
-
 pub loop-i-preserved : goal.loop-i-preserved
 loop-i-preserved g c =
     let n = length c.args.answers.now in
@@ -15,7 +12,7 @@ loop-i-preserved g c =
     let inside : c.loop-i.i < length c.args.answers.now = omega (arith, c.loop-i.auto.answers) in
     let next = drop_more (take n calls) i c.index-calls-i.result (omega (arith, length-take n calls)) ∙ ap (λ y. y ∷ drop (i + 1) (take n calls)) (get_or-take n calls i c.index-calls-i.result inside ∙ sym c.index-calls-i.is) in (
       simp length-set (omega arith),
-      λ s. going_on g.K.Key.order _ (take n calls) c.args.answers.now _ _ i (c.loop-i.invariant.1 s) _ c.carry-out.result (g.D.Dictionary.meaning c.carry-out.new.dictionary) {sound' = g.D.Dictionary.sound c.carry-out.new.dictionary} next (omega arith) (c.carry-out.ensures (c.loop-i.invariant.1 s).stays),
+      λ s. going_on g.K.Key.order _ (take n calls) c.args.answers.now _ _ i (c.loop-i.invariant.1 s) _ c.carry_out.result (g.D.Dictionary.meaning c.carry_out.new.dictionary) {sound' = g.D.Dictionary.sound c.carry_out.new.dictionary} next (omega arith) (c.carry_out.ensures (c.loop-i.invariant.1 s).stays),
     )
 
 pub returns-else-i-answers : goal.returns-else-i-answers

@@ -5,7 +5,7 @@ use Rattle.lines.proofs.fields.split_line.Goals as goal
 pub returns-in-Some : goal.returns-in-Some
 returns-in-Some c =
     let more = two_parts _ _ _ c.in-Some.ensures in
-    let one = c.in-ok-circuit.ensures in
-    let two = c.in-ok-kind.ensures in
-    let three = c.in-ok-limit.ensures in
+    let one = c.in_ok-circuit.ensures in
+    let two = c.in_ok-kind.ensures in
+    let three = c.in_ok-limit.ensures in
     λ four. omega (arith, ap length one.cut, ap length two.cut, ap length three.cut)

@@ -4,14 +4,14 @@ use Rattle.matching.proofs.matching.compare.Goals as goal
 
 pub returns-then-n-ys : goal.returns-then-n-ys
 returns-then-n-ys c =
-    let common = c.common-prefix-n.ensures in
+    let common = c.common_prefix-n.ensures in
     let xs = c.args.xs.now in
     let ys = c.args.ys.now in
-    let n = c.common-prefix-n.result in
+    let n = c.common_prefix-n.result in
     let shorter : n < length xs + length ys - n = elim c.if-n-ys.either [ inl h ↦ omega (arith, common.right) | inr h ↦ omega (arith, h.1, common.left) ] in
     (differ xs ys n common shorter, (n, refl, common))
 
 pub returns-else-n-ys : goal.returns-else-n-ys
 returns-else-n-ys c =
-    let common = c.common-prefix-n.ensures in
-    (same c.args.xs.now c.args.ys.now c.common-prefix-n.result common (omega (arith, c.if-n-ys.false)) (omega (arith, c.if-n-ys.false)), omega (arith, c.if-n-ys.false, common.left))
+    let common = c.common_prefix-n.ensures in
+    (same c.args.xs.now c.args.ys.now c.common_prefix-n.result common (omega (arith, c.if-n-ys.false)) (omega (arith, c.if-n-ys.false)), omega (arith, c.if-n-ys.false, common.left))

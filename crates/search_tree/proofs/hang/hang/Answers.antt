@@ -10,8 +10,8 @@ in_left g c = (slot g.K.Key.order c.args.rows.now c.args.used c.args.k.now (let 
 in_right : (g : _) (c : goal.In-Right g) → c.in-Right.p < c.args.used
 in_right g c = (slot g.K.Key.order c.args.rows.now c.args.used c.args.k.now (let h : c.args.used ≤ length c.args.rows.now = omega arith in h) c.requires.links (Right c.in-Right.p) (sym c.in-Right.is ∙ c.requires.spot)).0
 
-pub offset-bounds-rows-p : goal.offset-bounds-rows-p
-offset-bounds-rows-p g c = let h : c.in-Left.p < length c.args.rows.now = omega (arith, in_left g c) in search rules
+pub offset_bounds-rows-p : goal.offset_bounds-rows-p
+offset_bounds-rows-p g c = let h : c.in-Left.p < length c.args.rows.now = omega (arith, in_left g c) in search rules
 
 pub bounds-rows-p : goal.bounds-rows-p
 bounds-rows-p g c = let h : c.in-Left.p < c.args.used = in_left g c in simp length-set (omega arith)
@@ -19,8 +19,8 @@ bounds-rows-p g c = let h : c.in-Left.p < c.args.used = in_left g c in simp leng
 pub bounds-rows-p-in-Left : goal.bounds-rows-p-in-Left
 bounds-rows-p-in-Left g c = let h : c.in-Left.p < c.args.used = in_left g c in simp length-set (omega arith)
 
-pub offset-bounds-rows-p-in-Right : goal.offset-bounds-rows-p-in-Right
-offset-bounds-rows-p-in-Right g c = let h : c.in-Right.p < length c.args.rows.now = omega (arith, in_right g c) in search rules
+pub offset_bounds-rows-p-in-Right : goal.offset_bounds-rows-p-in-Right
+offset_bounds-rows-p-in-Right g c = let h : c.in-Right.p < length c.args.rows.now = omega (arith, in_right g c) in search rules
 
 pub bounds-rows-p-in-Right : goal.bounds-rows-p-in-Right
 bounds-rows-p-in-Right g c = let h : c.in-Right.p < c.args.used = in_right g c in simp length-set (omega arith)

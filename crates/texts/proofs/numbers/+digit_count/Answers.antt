@@ -13,4 +13,4 @@ returns-else-n-lt10 t c =
     let small : n < 2 ^ 64 = omega arith in
     let more = ap length (digits_more n small c.if-n-lt10.false) in
     let push = length_push (digits (n / 10)) (48 + n % 10) in
-    record { count = omega (arith, more, push, c.digit-count.ensures.count); few = omega (arith, more, push, c.digit-count.ensures.count, length_digits n small) }
+    record { count = omega (arith, more, push, c.digit_count.ensures.count); few = omega (arith, more, push, c.digit_count.ensures.count, length_digits n small) }

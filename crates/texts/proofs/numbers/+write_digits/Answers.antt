@@ -5,8 +5,8 @@ use Rattle.texts.proofs.Digits.{digits_more, Ready, ready_one, ready_more, ready
 use Rattle.texts.proofs.numbers.+write_digits.Goals as goal
 use Rattle.texts.proofs.numbers.+write_digits.Goals.{then-n-lt10, else-n-lt10, Joined-n-lt10}
 
-pub write-digits-at-requires : goal.write-digits-at-requires
-write-digits-at-requires t c =
+pub write_digits-at-requires : goal.write_digits-at-requires
+write_digits-at-requires t c =
     let n = c.args.n in
     let small : n < 2 ^ 64 = omega arith in
     let more = ap length (digits_more n small c.if-n-lt10.false) in
@@ -16,7 +16,7 @@ ready : (t : _) (c : goal.Joined-n-lt10 t) → Ready c.args.out.now c.if-n-lt10.
 ready t c =
     elim c.if-n-lt10.branch [
       | then-n-lt10 w ↦ ready_one _ _ _ _ _ w.if-n-lt10.true (omega (arith, c.requires)) w.out-is w.at-is
-      | else-n-lt10 w ↦ ready_more _ _ _ _ _ (omega arith) w.if-n-lt10.false _ _ w.write-digits-at.ensures w.out-is w.at-is
+      | else-n-lt10 w ↦ ready_more _ _ _ _ _ (omega arith) w.if-n-lt10.false _ _ w.write_digits-at.ensures w.out-is w.at-is
     ]
 
 pub bounds-out-at : goal.bounds-out-at

@@ -4,5 +4,5 @@ use Rattle.texts.proofs.report.counted.Goals as goal
 
 pub returns : goal.returns
 returns c =
-    let named = behind _ (behind _ c.empty.ensures.text c.with-bytes.ensures.text) c.with-bytes-named.ensures.text in
-    behind _ (behind _ named c.with-number.ensures.text) c.with-bytes-2.ensures.text ∙ simp append_assoc
+    let named = behind _ (behind _ c.empty.ensures.text c.with_bytes.ensures.text) c.with_bytes-named.ensures.text in
+    behind _ (behind _ named c.with_number.ensures.text) c.with_bytes-2.ensures.text ∙ simp append_assoc

@@ -7,6 +7,6 @@ regroup word n l x y e = simp append_assoc (ap (λ z. word ++ (z ∷ (9 ∷ (n +
 
 pub returns : goal.returns
 returns c =
-    let named = behind _ (behind _ c.empty.ensures.text c.with-bytes.ensures.text) c.with-bytes-named.ensures.text in
-    let numbered = behind _ (behind _ named c.with-number.ensures.text) c.with-bytes-numbered.ensures.text in
-    behind _ (behind _ numbered c.with-number-2.ensures.text) c.with-bytes-2.ensures.text ∙ regroup (114 ∷ (101 ∷ (102 ∷ (117 ∷ (115 ∷ (101 ∷ (100 ∷ (9 ∷ [])))))))) _ _ _ _ c.letter-letter.ensures
+    let named = behind _ (behind _ c.empty.ensures.text c.with_bytes.ensures.text) c.with_bytes-named.ensures.text in
+    let numbered = behind _ (behind _ named c.with_number.ensures.text) c.with_bytes-numbered.ensures.text in
+    behind _ (behind _ numbered c.with_number-2.ensures.text) c.with_bytes-2.ensures.text ∙ regroup (114 ∷ (101 ∷ (102 ∷ (117 ∷ (115 ∷ (101 ∷ (100 ∷ (9 ∷ [])))))))) _ _ _ _ c.letter-letter.ensures

@@ -16,8 +16,8 @@ left_at g c = subst (λ s. SlotAt (child c.args.rows.now) (crits c.args.rows.now
 right_at : (g : _) (c : goal.In-Right g) → SideAt (child c.args.rows.now) (crits c.args.rows.now) c.args.used c.args.root (bit (g.K.Key.spelling c.args.k.now)) (number c.args.place) true c.in-Right.p c.args.hook.link
 right_at g c = subst (λ s. SlotAt (child c.args.rows.now) (crits c.args.rows.now) c.args.used c.args.root (bit (g.K.Key.spelling c.args.k.now)) (number c.args.place) s c.args.hook.link) c.in-Right.is c.requires.hooked.1
 
-pub offset-bounds-rows-p : goal.offset-bounds-rows-p
-offset-bounds-rows-p g c = let h : c.in-Left.p < length c.args.rows.now = omega (arith, (left_at g c).1) in search rules
+pub offset_bounds-rows-p : goal.offset_bounds-rows-p
+offset_bounds-rows-p g c = let h : c.in-Left.p < length c.args.rows.now = omega (arith, (left_at g c).1) in search rules
 
 pub bounds-rows-p : goal.bounds-rows-p
 bounds-rows-p g c = let h : c.in-Left.p < c.args.used = (left_at g c).1 in simp length-set (omega arith)
@@ -25,8 +25,8 @@ bounds-rows-p g c = let h : c.in-Left.p < c.args.used = (left_at g c).1 in simp 
 pub bounds-rows-p-in-Left : goal.bounds-rows-p-in-Left
 bounds-rows-p-in-Left g c = let h : c.in-Left.p < c.args.used = (left_at g c).1 in simp length-set (omega arith)
 
-pub offset-bounds-rows-p-in-Right : goal.offset-bounds-rows-p-in-Right
-offset-bounds-rows-p-in-Right g c = let h : c.in-Right.p < length c.args.rows.now = omega (arith, (right_at g c).1) in search rules
+pub offset_bounds-rows-p-in-Right : goal.offset_bounds-rows-p-in-Right
+offset_bounds-rows-p-in-Right g c = let h : c.in-Right.p < length c.args.rows.now = omega (arith, (right_at g c).1) in search rules
 
 pub bounds-rows-p-in-Right : goal.bounds-rows-p-in-Right
 bounds-rows-p-in-Right g c = let h : c.in-Right.p < c.args.used = (right_at g c).1 in simp length-set (omega arith)

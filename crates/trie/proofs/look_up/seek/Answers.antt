@@ -6,20 +6,20 @@ use Rattle.trie.proofs.look_up.seek.Goals as goal
 pub loop-at-init : goal.loop-at-init
 loop-at-init g c = go_start c.args.rows.now c.args.used c.args.root (bit (g.K.Key.spelling c.args.k.now)) c.requires.root
 
-pub bit-at-requires : goal.bit-at-requires
-bit-at-requires g c = (place_fits c.args.rows.now c.args.used c.args.root (bit (g.K.Key.spelling c.args.k.now)) c.loop-at.at c.index-rows-i.result c.requires.long c.requires.places c.requires.links (omega arith) c.index-rows-i.is c.loop-at.invariant.good).0
+pub bit_at-requires : goal.bit_at-requires
+bit_at-requires g c = (place_fits c.args.rows.now c.args.used c.args.root (bit (g.K.Key.spelling c.args.k.now)) c.loop-at.at c.index-rows-i.result c.requires.long c.requires.places c.requires.links (omega arith) c.index-rows-i.is c.loop-at.invariant.good).0
 
-pub loop-at-smaller-then-bit-at : goal.loop-at-smaller-then-bit-at
-loop-at-smaller-then-bit-at g c = falls c.args.rows.now c.args.used c.args.root (bit (g.K.Key.spelling c.args.k.now)) c.loop-at.at c.index-rows-i.result c.requires.long c.requires.places c.requires.links (omega arith) c.index-rows-i.is c.loop-at.invariant.good true
+pub loop-at-smaller-then-bit_at : goal.loop-at-smaller-then-bit_at
+loop-at-smaller-then-bit_at g c = falls c.args.rows.now c.args.used c.args.root (bit (g.K.Key.spelling c.args.k.now)) c.loop-at.at c.index-rows-i.result c.requires.long c.requires.places c.requires.links (omega arith) c.index-rows-i.is c.loop-at.invariant.good true
 
-pub loop-at-preserved-then-bit-at : goal.loop-at-preserved-then-bit-at
-loop-at-preserved-then-bit-at g c = go_on c.args.rows.now c.args.used c.args.root (bit (g.K.Key.spelling c.args.k.now)) c.loop-at.at c.index-rows-i.result c.requires.long c.requires.places c.requires.links (omega arith) c.index-rows-i.is c.loop-at.invariant.good true (sym c.bit-at.ensures ∙ c.if-bit-at.true) c.loop-at.invariant.back
+pub loop-at-preserved-then-bit_at : goal.loop-at-preserved-then-bit_at
+loop-at-preserved-then-bit_at g c = go_on c.args.rows.now c.args.used c.args.root (bit (g.K.Key.spelling c.args.k.now)) c.loop-at.at c.index-rows-i.result c.requires.long c.requires.places c.requires.links (omega arith) c.index-rows-i.is c.loop-at.invariant.good true (sym c.bit_at.ensures ∙ c.if-bit_at.true) c.loop-at.invariant.back
 
 pub loop-at-smaller : goal.loop-at-smaller
 loop-at-smaller g c = falls c.args.rows.now c.args.used c.args.root (bit (g.K.Key.spelling c.args.k.now)) c.loop-at.at c.index-rows-i.result c.requires.long c.requires.places c.requires.links (omega arith) c.index-rows-i.is c.loop-at.invariant.good false
 
 pub loop-at-preserved : goal.loop-at-preserved
-loop-at-preserved g c = go_on c.args.rows.now c.args.used c.args.root (bit (g.K.Key.spelling c.args.k.now)) c.loop-at.at c.index-rows-i.result c.requires.long c.requires.places c.requires.links (omega arith) c.index-rows-i.is c.loop-at.invariant.good false (sym c.bit-at.ensures ∙ c.if-bit-at.false) c.loop-at.invariant.back
+loop-at-preserved g c = go_on c.args.rows.now c.args.used c.args.root (bit (g.K.Key.spelling c.args.k.now)) c.loop-at.at c.index-rows-i.result c.requires.long c.requires.places c.requires.links (omega arith) c.index-rows-i.is c.loop-at.invariant.good false (sym c.bit_at.ensures ∙ c.if-bit_at.false) c.loop-at.invariant.back
 
 pub returns : goal.returns
 returns g c =

@@ -4,4 +4,4 @@ use Rattle.cutting.proofs.Places.{summit_peak}
 use Rattle.cutting.proofs.window.passes.begins_at.Goals as goal
 
 pub returns : goal.returns
-returns c = c.is-summit.ensures ∙ summit_peak c.args.n (at c.args.old.now) c.args.i _ _ _ c.left-of.ensures refl c.right-of.ensures
+returns c = c.is_summit.ensures ∙ summit_peak c.args.n (at c.args.old.now) c.args.i _ _ _ c.left_of.ensures refl c.right_of.ensures

@@ -13,10 +13,10 @@ loop-i-preserved c =
     let f = peak c.args.n (at c.args.old) in
     let xs = c.loop-i.new in
     let i = c.loop-i.i in
-    let v = bool_byte c.begins-at.result in (
+    let v = bool_byte c.begins_at.result in (
       simp length-set (omega arith),
       (λ k h. at_put (λ k v. v ≡ 0) xs i v k (omega arith) (λ e. absurd (omega arith)) (λ ne. c.loop-i.invariant.1 k (omega arith))),
-      front_put (λ k. mark (f k)) xs i v (omega arith) c.loop-i.invariant.2 (byte_mark c.begins-at.result ∙ ap mark c.begins-at.ensures),
+      front_put (λ k. mark (f k)) xs i v (omega arith) c.loop-i.invariant.2 (byte_mark c.begins_at.result ∙ ap mark c.begins_at.ensures),
     )
 
 pub returns : goal.returns

@@ -13,7 +13,7 @@ loop-i-preserved c =
     let new : c.if-i-eq0.new ≡ recolour f i =
     elim c.if-i-eq0.branch [
       | then-i-eq0 w ↦ w.new-is ∙ recolour_first f i w.if-i-eq0.true
-      | else-i-eq0 w ↦ w.new-is ∙ w.fresh-colour.ensures ∙ recolour_at f i w.if-i-eq0.false
+      | else-i-eq0 w ↦ w.new-is ∙ w.fresh_colour.ensures ∙ recolour_at f i w.if-i-eq0.false
     ] in
     (simp length-set (omega arith), front_put (recolour f) c.loop-i.new i c.if-i-eq0.new (omega arith) c.loop-i.invariant.1 new)
 

@@ -7,7 +7,7 @@ use Rattle.cutting.proofs.window.passes.reduced.Goals as goal
 pub loop-i-preserved : goal.loop-i-preserved
 loop-i-preserved c = (
   simp length-set (omega arith),
-  front_put (reduce c.args.n c.args.k (at c.args.old)) c.loop-i.new c.loop-i.i c.reduced-at.result (omega arith) c.loop-i.invariant.1 c.reduced-at.ensures,
+  front_put (reduce c.args.n c.args.k (at c.args.old)) c.loop-i.new c.loop-i.i c.reduced_at.result (omega arith) c.loop-i.invariant.1 c.reduced_at.ensures,
 )
 
 pub returns : goal.returns

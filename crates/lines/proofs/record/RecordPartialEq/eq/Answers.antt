@@ -10,5 +10,5 @@ returns c =
     let y = c.args.other.now in
     subst
     (λ r. Decides r (x ≡ y))
-    (sym c.all-four.ensures)
+    (sym c.all_four.ensures)
     (same_decides x y _ _ _ _ (slice_eq-Decides Decides-eqb x.circuit y.circuit _ c.eq-circuit.ensures) (decides_from_cond _ c.eq-kind.ensures) (Decides-eqb x.limit y.limit) (Decides-eqb x.chain y.chain))

@@ -11,7 +11,7 @@ returns-then-i-eq12 c = byte_letter c.args.self.now c.args.i _ c.if-i-eq12.true 
 pub returns-then-i-lt17 : goal.returns-then-i-lt17
 returns-then-i-lt17 c =
     let low : 13 ≤ c.args.i = omega (arith, c.if-i-lt12.false, c.if-i-eq12.false) in
-    byte_limit c.args.self.now c.args.i _ low c.if-i-lt17.true c.byte-of.ensures
+    byte_limit c.args.self.now c.args.i _ low c.if-i-lt17.true c.byte_of.ensures
 
 pub returns-then-i-eq17 : goal.returns-then-i-eq17
 returns-then-i-eq17 c = byte_chain c.args.self.now c.args.i c.if-i-eq17.true

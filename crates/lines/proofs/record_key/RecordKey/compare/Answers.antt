@@ -1,6 +1,4 @@
 use Rattle.std.proofs.Common.{◌≡◌, ap, ◌∙◌}
-use Rattle.std.specs.Cmp.{nat_cmp_total}
-use Rattle.std.specs.Cmp.Lexicographic.{lexical}
 use Rattle.std.specs.Ordering.{ordering_then, nat_cmp}
 use Rattle.lines.proofs.record_key.RecordKey.compare.Goals as goal
 
@@ -9,4 +7,4 @@ returns c =
     let limits = c.then-limits.ensures ∙ (λ i. ordering_then (c.cmp.ensures i) (c.cmp-chains.ensures i)) in
     let letters = c.cmp-2.ensures ∙ (λ i. nat_cmp (c.letter.ensures i) (c.letter-2.ensures i)) in
     let kinds = c.then-kinds.ensures ∙ (λ i. ordering_then (letters i) (limits i)) in
-    c.then.ensures ∙ (λ i. ordering_then ((lexical nat_cmp_total).says c.args.self.now.circuit c.args.other.now.circuit c.cmp-3.result c.cmp-3.ensures i) (kinds i))
+    c.then.ensures ∙ (λ i. ordering_then (c.cmp-3.ensures i) (kinds i))

@@ -1,11 +1,10 @@
-use Rattle.std.proofs.Common.{◌≡◌, ℕ, ◌<◌, Ordering, ap, ◌∙◌}
-use Rattle.std.specs.Cmp.{nat_cmp_total}
-use Rattle.std.specs.Ordering.{MatchOrdering, ordering_then, nat_cmp}
+use Rattle.std.proofs.Common.{◌≡◌, ℕ, Ordering, ◌∙◌, ap}
+use Rattle.std.specs.Ordering.{ordering_then, nat_cmp}
 use Rattle.scheme.proofs.composition_key.CompositionKey.compare.Goals as goal
 
 -- one field more in front
-first : (x y : ℕ) (r s t u : Ordering) → r ≡ ordering_then s t → MatchOrdering s (x < y) (x ≡ y) (y < x) → t ≡ u → r ≡ ordering_then (nat_cmp x y) u
-first x y r s t u e h k = e ∙ ap (λ o. ordering_then o t) (nat_cmp_total.says x y s h) ∙ ap (ordering_then (nat_cmp x y)) k
+first : (x y : ℕ) (r s t u : Ordering) → r ≡ ordering_then s t → s ≡ nat_cmp x y → t ≡ u → r ≡ ordering_then (nat_cmp x y) u
+first x y r s t u e h k = e ∙ ap (λ o. ordering_then o t) h ∙ ap (ordering_then (nat_cmp x y)) k
 
 pub returns : goal.returns
 returns c =

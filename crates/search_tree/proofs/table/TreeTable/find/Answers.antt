@@ -7,7 +7,7 @@ use Rattle.search_tree.proofs.table.TreeTable.find.Goals as goal
 pub returns-in-Here : goal.returns-in-Here
 returns-in-Here g c =
     record {
-      does = λ sound. did_find g.K.Key.order c.args.k.now _ _ _ _ c.one-more-self.ensures sound _ (rows_some g.K.Key.order g.met.K.Key.same c.args.self.now.rows.now c.args.self.now.used (let h : c.args.self.now.used ≤ length c.args.self.now.rows.now = omega arith in h) c.requires.links sound c.args.k.now c.in-Here.i c.in-Here.ensures.ends);
+      does = λ sound. did_find g.K.Key.order c.args.k.now _ _ _ _ c.one_more-self.ensures sound _ (rows_some g.K.Key.order g.met.K.Key.same c.args.self.now.rows.now c.args.self.now.used (let h : c.args.self.now.used ≤ length c.args.self.now.rows.now = omega arith in h) c.requires.links sound c.args.k.now c.in-Here.i c.in-Here.ensures.ends);
       long = c.requires.long;
       counted = omega arith;
       links = c.requires.links;
@@ -15,10 +15,10 @@ returns-in-Here g c =
       lent = refl;
     }
 
-pub returns-in-default : goal.returns-in-default
-returns-in-default g c =
+pub returns-in_default : goal.returns-in_default
+returns-in_default g c =
     record {
-      does = λ sound. did_find g.K.Key.order c.args.k.now _ _ _ _ c.one-more-self.ensures sound _ (rows_none g.K.Key.order g.met.K.Key.same c.args.self.now.rows.now c.args.self.now.used (let h : c.args.self.now.used ≤ length c.args.self.now.rows.now = omega arith in h) c.requires.links sound c.args.k.now c.spot.result c.spot.ensures.ends c.in-default.not-Here);
+      does = λ sound. did_find g.K.Key.order c.args.k.now _ _ _ _ c.one_more-self.ensures sound _ (rows_none g.K.Key.order g.met.K.Key.same c.args.self.now.rows.now c.args.self.now.used (let h : c.args.self.now.used ≤ length c.args.self.now.rows.now = omega arith in h) c.requires.links sound c.args.k.now c.spot.result c.spot.ensures.ends c.in_default.not-Here);
       long = c.requires.long;
       counted = omega arith;
       links = c.requires.links;

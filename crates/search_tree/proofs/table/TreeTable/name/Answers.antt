@@ -10,7 +10,7 @@ use Rattle.search_tree.proofs.table.TreeTable.name.Goals as goal
 pub returns-in-Here : goal.returns-in-Here
 returns-in-Here g c =
     record {
-      does = λ sound. did_old g.K.Key.order c.args.k.now _ _ _ _ c.one-more-self.ensures sound _ (rows_some g.K.Key.order g.met.K.Key.same c.args.self.now.rows.now c.args.self.now.used (let h : c.args.self.now.used ≤ length c.args.self.now.rows.now = omega arith in h) c.requires.links sound c.args.k.now c.in-Here.i c.in-Here.ensures.ends);
+      does = λ sound. did_old g.K.Key.order c.args.k.now _ _ _ _ c.one_more-self.ensures sound _ (rows_some g.K.Key.order g.met.K.Key.same c.args.self.now.rows.now c.args.self.now.used (let h : c.args.self.now.used ≤ length c.args.self.now.rows.now = omega arith in h) c.requires.links sound c.args.k.now c.in-Here.i c.in-Here.ensures.ends);
       long = c.requires.long;
       counted = omega arith;
       links = c.requires.links;
@@ -18,15 +18,15 @@ returns-in-Here g c =
       lent = refl;
     }
 
-pub returns-then-used-capacity-over : goal.returns-then-used-capacity-over
-returns-then-used-capacity-over g c =
+pub returns-then-used-capacity_over : goal.returns-then-used-capacity_over
+returns-then-used-capacity_over g c =
     let rows = c.args.self.now.rows.now in
     let used = c.args.self.now.used in
     let inside : c.args.self.now.used ≤ length c.args.self.now.rows.now = omega arith in
     let same_length : length c.hang.new.rows ≡ length rows = c.hang.auto.rows in
     record {
-      does = λ sound. did_append g.K.Key.order c.args.k.now (keys rows used) (most (length rows)) _ _ c.one-more-self.ensures
-          (rows_none g.K.Key.order g.met.K.Key.same rows used inside c.requires.links sound c.args.k.now c.spot-spot.result c.spot-spot.ensures.ends c.in-default.not-Here) _ _
+      does = λ sound. did_append g.K.Key.order c.args.k.now (keys rows used) (most (length rows)) _ _ c.one_more-self.ensures
+          (rows_none g.K.Key.order g.met.K.Key.same rows used inside c.requires.links sound c.args.k.now c.spot-spot.result c.spot-spot.ensures.ends c.in_default.not-Here) _ _
           (appended c.args.k.now (keys rows used) (most (length rows)) _ used (held_long (λ w. w.key) rows used inside) (c.hang.ensures.ordered sound) _ (most (length c.hang.new.rows)) (omega arith) c.hang.ensures.keys (ap most same_length));
       long = omega arith;
       counted = omega arith;
@@ -35,14 +35,14 @@ returns-then-used-capacity-over g c =
       lent = refl;
     }
 
-pub returns-else-used-capacity-over : goal.returns-else-used-capacity-over
-returns-else-used-capacity-over g c =
+pub returns-else-used-capacity_over : goal.returns-else-used-capacity_over
+returns-else-used-capacity_over g c =
     let rows = c.args.self.now.rows.now in
     let used = c.args.self.now.used in
     let inside : c.args.self.now.used ≤ length c.args.self.now.rows.now = omega arith in
     record {
-      does = λ sound. did_append g.K.Key.order c.args.k.now (keys rows used) (most (length rows)) _ _ c.one-more-self.ensures
-          (rows_none g.K.Key.order g.met.K.Key.same rows used inside c.requires.links sound c.args.k.now c.spot-spot.result c.spot-spot.ensures.ends c.in-default.not-Here) _ _
+      does = λ sound. did_append g.K.Key.order c.args.k.now (keys rows used) (most (length rows)) _ _ c.one_more-self.ensures
+          (rows_none g.K.Key.order g.met.K.Key.same rows used inside c.requires.links sound c.args.k.now c.spot-spot.result c.spot-spot.ensures.ends c.in_default.not-Here) _ _
           (refused c.args.k.now (keys rows used) (most (length rows)) _ used (held_long (λ w. w.key) rows used inside) sound (omega arith));
       long = c.requires.long;
       counted = omega arith;

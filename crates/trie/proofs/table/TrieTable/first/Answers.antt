@@ -6,8 +6,8 @@ use Rattle.dictionary.proofs.Held.{drop_later}
 use Rattle.dictionary.proofs.Numbers.{appended, refused}
 use Rattle.trie.proofs.table.TrieTable.first.Goals as goal
 
-pub returns-then-capacity-over-eq0 : goal.returns-then-capacity-over-eq0
-returns-then-capacity-over-eq0 g c =
+pub returns-then-capacity_over-eq0 : goal.returns-then-capacity_over-eq0
+returns-then-capacity_over-eq0 g c =
     let t = c.args.self.now in
     let inside : c.args.self.now.used ≤ length c.args.self.now.rows.now = omega (arith, c.requires.formed.long) in
     record {

@@ -8,8 +8,8 @@ use Rattle.trie.proofs.Meetings.{hook_there}
 use Rattle.dictionary.proofs.Numbers.{appended, refused}
 use Rattle.trie.proofs.table.TrieTable.insert.Goals as goal
 
-pub returns-then-used-capacity-over : goal.returns-then-used-capacity-over
-returns-then-used-capacity-over g c =
+pub returns-then-used-capacity_over : goal.returns-then-used-capacity_over
+returns-then-used-capacity_over g c =
     let t = c.args.self.now in
     let inside : c.args.self.now.used ≤ length c.args.self.now.rows.now = omega (arith, c.requires.formed.long) in
     record {
@@ -20,12 +20,12 @@ returns-then-used-capacity-over g c =
       lent = refl;
     }
 
-pub returns-in-default : goal.returns-in-default
-returns-in-default g c =
+pub returns-in_default : goal.returns-in_default
+returns-in_default g c =
     let t = c.args.self.now in
     let inside : c.args.self.now.used ≤ length c.args.self.now.rows.now = omega (arith, c.requires.formed.long) in
     record {
-      does = λ sound. absurd (hook_there g.K.Key.order g.met.K.Key.same g.K.Key.spelling t.rows.now t.used t.root inside c.requires.formed.linked c.requires.formed.rooted sound c.args.k.now (number c.args.place) c.requires.parts c.in-default.ensures);
+      does = λ sound. absurd (hook_there g.K.Key.order g.met.K.Key.same g.K.Key.spelling t.rows.now t.used t.root inside c.requires.formed.linked c.requires.formed.rooted sound c.args.k.now (number c.args.place) c.requires.parts c.in_default.ensures);
       formed = record { long = c.requires.formed.long; places = c.requires.formed.places; linked = c.requires.formed.linked; rooted = c.requires.formed.rooted };
       asks = refl;
       beyond = refl;

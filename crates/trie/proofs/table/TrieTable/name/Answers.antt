@@ -11,7 +11,7 @@ returns-in-Here g c =
     let t = c.args.self.now in
     let inside : c.args.self.now.used ≤ length c.args.self.now.rows.now = omega (arith, c.requires.long) in
     record {
-      does = λ sound. did_old g.K.Key.order c.args.k.now _ _ _ _ c.one-more-self.ensures sound _ (met_here g.K.Key.order g.met.K.Key.same g.K.Key.spelling t.rows.now t.used t.root inside c.requires.linked c.requires.rooted sound c.args.k.now (itself g.K.Key.order g.met.K.Key.total c.args.k.now) c.in-Here.i c.in-Here.ensures.1);
+      does = λ sound. did_old g.K.Key.order c.args.k.now _ _ _ _ c.one_more-self.ensures sound _ (met_here g.K.Key.order g.met.K.Key.same g.K.Key.spelling t.rows.now t.used t.root inside c.requires.linked c.requires.rooted sound c.args.k.now (itself g.K.Key.order g.met.K.Key.total c.args.k.now) c.in-Here.i c.in-Here.ensures.1);
       formed = record { long = c.requires.long; places = c.requires.places; linked = c.requires.linked; rooted = c.requires.rooted };
       counted = omega arith;
       beyond = refl;
@@ -23,7 +23,7 @@ returns-in-Apart g c =
     let t = c.args.self.now in
     let inside : c.args.self.now.used ≤ length c.args.self.now.rows.now = omega (arith, c.requires.long) in
     record {
-      does = λ sound. did_append g.K.Key.order c.args.k.now _ _ _ _ c.one-more-self.ensures
+      does = λ sound. did_append g.K.Key.order c.args.k.now _ _ _ _ c.one_more-self.ensures
           (met_apart g.K.Key.order g.met.K.Key.same g.K.Key.spelling t.rows.now t.used t.root inside c.requires.linked c.requires.rooted sound c.args.k.now _ c.in-Apart.ensures.2)
           _ _ (c.insert.ensures.does sound);
       formed = c.insert.ensures.formed;
@@ -37,7 +37,7 @@ returns-in-Nothing g c =
     let t = c.args.self.now in
     let inside : c.args.self.now.used ≤ length c.args.self.now.rows.now = omega (arith, c.requires.long) in
     record {
-      does = λ sound. did_append g.K.Key.order c.args.k.now _ _ _ _ c.one-more-self.ensures
+      does = λ sound. did_append g.K.Key.order c.args.k.now _ _ _ _ c.one_more-self.ensures
           (met_nothing g.K.Key.order g.met.K.Key.same g.K.Key.spelling t.rows.now t.used t.root inside c.requires.linked c.requires.rooted sound c.args.k.now c.in-Nothing.ensures)
           _ _ (c.first.ensures.does sound);
       formed = c.first.ensures.formed;
