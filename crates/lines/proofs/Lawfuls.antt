@@ -4,7 +4,7 @@ use Rattle.std.specs.List.{AllByRecursion as All}
 use Rattle.std.proofs.lemmas.Bool.{and_parts, leb-true}
 use Rattle.lines.specs.declared.kind.Kind.{Kind}
 use Rattle.lines.specs.declared.record.Record.{Record}
-use Rattle.lines.specs.Layout.{given, when, is_circuit, circuit_of, kind_of_one, number_of, limit_of, chain_of, to_record, of_fields, of_parts_lem, record_of, Lawful}
+use Rattle.lines.specs.Layout.{given, when, is_circuit, circuit_of, kind_of_one, number_of, limit_of, chain_of, to_record, of_fields, of_parts, record_of, Lawful}
 use Rattle.lines.specs.declared.reader.LineReader.{LineReader}
 use Rattle.lines.specs.Parts.{parts}
 use Rattle.lines.specs.Readers.{left, reading_of}
@@ -58,7 +58,7 @@ of_fields_lem c k l h r e =
     let t = given_some (chain_of h) (λ m. Some (to_record p.0 q.0 s.0 m)) r s.2 in
     subst Lawful (same_some (to_record p.0 q.0 s.0 t.0) r t.2) (to_record_lem c p.0 q.0 s.0 t.0 p.1 (limit_in l s.0 s.1) (chain_in h t.0 t.1))
 
-of_parts_lem : (ps : List (List ℕ)) (r : Record) → of_parts_lem ps ≡ Some r → Lawful r
+of_parts_lem : (ps : List (List ℕ)) (r : Record) → of_parts ps ≡ Some r → Lawful r
 of_parts_lem [] r e = let z : ◌≡◌ {A = ℕ} 0 1 = cc in absurd (omega arith)
 of_parts_lem (c ∷ []) r e = let z : ◌≡◌ {A = ℕ} 0 1 = cc in absurd (omega arith)
 of_parts_lem (c ∷ (k ∷ [])) r e = let z : ◌≡◌ {A = ℕ} 0 1 = cc in absurd (omega arith)

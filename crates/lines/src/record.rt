@@ -1,6 +1,5 @@
 //! The line record: one circuit of a sector.
 ghost use Rattle.std.specs.Prelude.{◌≡◌, ◌&&◌, length, replicate, Decides};
-ghost use Rattle.lines.specs.Records.{same_fields, same_fields_laws};
 
 use crate::kind::Kind;
 
@@ -38,6 +37,8 @@ fn all_four(a: bool, b: bool, c: bool, d: bool) -> bool
 }
 
 impl PartialEq for Record {
+    ghost use Rattle.lines.specs.Records.{same_fields, same_fields_laws};
+
     ghost eq = { same_fields };
 
     ghost laws = { same_fields_laws };

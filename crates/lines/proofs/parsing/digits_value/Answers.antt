@@ -2,7 +2,7 @@ use Rattle.std.proofs.Common.{◌+◌, ◌*◌, ◌^◌, ◌<◌, length, sym, �
 use Rattle.lines.proofs.Values.{value_more, value_stops, value_all, value_below, value_fits}
 use Rattle.lines.proofs.parsing.digits_value.Goals as goal
 
-fits : (c : goal.In-ok-d) → c.loop-b.value * 10 + c.in_ok-d.d < 2 ^ 32
+fits : (c : goal.In_ok-d) → c.loop-b.value * 10 + c.in_ok-d.d < 2 ^ 32
 fits c =
     value_fits c.loop-b.value c.in_ok-d.d c.loop-b.b-index c.loop-b.invariant.1 c.in_ok-d.ensures.small (omega (arith, c.requires))
 
