@@ -44,28 +44,31 @@ fn reports(rt: HostRuntime) {
     let interlock = DeliveredFile::Interlock;
     assert_eq!(rt;
         report(Outcome::Same { lines: 102 }).as_bytes(),
-        b"same\t102\n"
+        b"same\t102\n".as_slice()
     );
     assert_eq!(rt;
         report(Outcome::Differ { line: 51 }).as_bytes(),
-        b"differ\t51\n"
+        b"differ\t51\n".as_slice()
     );
     let first = Outcome::Refused {
         file: magnets,
         number: 1,
         place: 7,
     };
-    assert_eq!(rt; report(first).as_bytes(), b"refused\tM\t1\t7\n");
+    assert_eq!(rt; report(first).as_bytes(), b"refused\tM\t1\t7\n".as_slice());
     let second = Outcome::Refused {
         file: interlock,
         number: 2,
         place: 129,
     };
-    assert_eq!(rt; report(second).as_bytes(), b"refused\tI\t2\t129\n");
+    assert_eq!(rt;
+        report(second).as_bytes(),
+        b"refused\tI\t2\t129\n".as_slice()
+    );
     let ninth = Outcome::Refused {
         file: interlock,
         number: 9,
         place: 4,
     };
-    assert_eq!(rt; report(ninth).as_bytes(), b"refused\tI\t9\t0\n");
+    assert_eq!(rt; report(ninth).as_bytes(), b"refused\tI\t9\t0\n".as_slice());
 }
