@@ -1,10 +1,10 @@
 -- The number of a key in a list, and what `name` is to answer and leave. Assumes nothing.
-use Rattle.std.proofs.Common.{◌≡◌, ℕ, zero, suc, ◌+◌, ◌-◌, ◌<◌, ◌≤◌, true, false, cond, ltb, ◌⊎◌, List, [], ◌∷◌, ◌++◌, length, Some, None, Ok, Err, Option, Result, Ordering, Less, Equal, Greater, sym, refl, ap, ◌∙◌, subst, ⊎_elim, arith}
+use Rattle.std.proofs.Common.{◌≡◌, ℕ, zero, suc, ◌+◌, ◌-◌, ◌<◌, ◌≤◌, false, ltb, ◌⊎◌, List, [], ◌∷◌, ◌++◌, length, Some, None, Ok, Err, Option, Result, Ordering, Less, Equal, Greater, sym, refl, ap, ◌∙◌, subst, ⊎_elim, arith}
 use Rattle.std.specs.List.{slice_get}
 use Rattle.std.specs.Ordering.{is_eq}
 use Rattle.std.proofs.lemmas.Option.{slice_get_past}
 use Rattle.std.proofs.lemmas.Bool.{cond-true, cond-false, lt-ltb, le-ltb}
-use Rattle.dictionary.specs.Does.{Out, out, Did}
+use Rattle.dictionary.specs.Does.{out, Did}
 use Rattle.dictionary.specs.Meaning.{Meaning, meaning, more, full, absent, or_absent, key_of, number_from, number_of, finding, append, name_at, naming}
 use Rattle.dictionary.specs.declared.refusals.Absent.{Absent}
 use Rattle.dictionary.specs.declared.refusals.Full.{Full}

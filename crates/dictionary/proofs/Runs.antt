@@ -1,10 +1,10 @@
 -- Lists of dictionary calls: the calls that are left give the rest of the answers. Assumes nothing.
-use Rattle.std.proofs.Common.{◌≡◌, ℕ, zero, suc, ◌+◌, ◌<◌, ◌≤◌, true, false, cond, ltb, List, [], ◌∷◌, ◌++◌, length, get_or, take, drop, set, Some, None, Ok, Err, Option, Result, Ordering, sym, refl, ap, ◌∙◌, subst, arith}
+use Rattle.std.proofs.Common.{◌≡◌, ℕ, zero, suc, ◌+◌, ◌<◌, ◌≤◌, true, false, cond, ltb, List, [], ◌∷◌, ◌++◌, length, take, drop, set, Some, None, Ok, Err, Result, Ordering, sym, refl, ap, ◌∙◌, subst, arith}
 use Rattle.std.specs.List.{slice_get}
-use Rattle.std.proofs.lemmas.List.{append-nil, append_assoc, take-append-drop, length-take-le, drop_more, drop_all, drop-set-lt, drop-drop, take_more_set}
+use Rattle.std.proofs.lemmas.List.{append-nil, append_assoc, take-append-drop, length-take-le, drop_all, drop-set-lt, drop-drop, take_more_set}
 use Rattle.dictionary.specs.Does.{Out, out, Did}
 use Rattle.dictionary.specs.Histories.{calling, answers, after, Ran, Keeps, Alike}
-use Rattle.dictionary.specs.Meaning.{Meaning, meaning, full, key_of, number_of, append, name_at, asked, naming}
+use Rattle.dictionary.specs.Meaning.{Meaning, meaning, full, key_of, number_of, name_at, asked, naming}
 use Rattle.dictionary.specs.declared.refusals.Full.{Full}
 use Rattle.dictionary.specs.declared.calls.Answer.{Answer}
 use Rattle.dictionary.specs.declared.calls.Call.{Call}

@@ -1,7 +1,7 @@
 -- What every make owes as a dictionary, shown from its rows: here, since ghost members cite it. Assumes nothing.
 --     different_from    where no key stands at two places, none has two numbers
 --     held_within       the keys do not exceed the capacity, nor that its limit (most_small)
-use Rattle.std.specs.Prelude.{◌≡◌, ℕ, zero, suc, ◌<◌, ◌≤◌, min, List, [], ◌∷◌, length, take, Some}
+use Rattle.std.specs.Prelude.{◌≡◌, ℕ, zero, suc, ◌<◌, ◌≤◌, List, [], ◌∷◌, length, take, Some}
 use Rattle.std.proofs.Common.{ap, ◌∙◌, arith, length-take-le}
 use Rattle.std.proofs.lemmas.List.{length-map}
 use Rattle.std.specs.List.{slice_get}

@@ -2,9 +2,9 @@
 use Rattle.std.specs.Prelude.{◌≡◌, ℕ, ◌<◌, List, [], ◌∷◌, refl}
 use Rattle.std.specs.declared.cmp.Ordering.TheVariants.{Less, Equal, Greater}
 use Rattle.std.specs.declared.cmp.Ordering.{Ordering}
-use Rattle.std.proofs.Common.{sym, ap, subst, ◌∙◌, true≢false}
+use Rattle.std.proofs.Common.{ap, subst, true≢false}
 use Rattle.std.specs.Cmp.{IsTotalOrder, ranks, tied_itself}
-use Rattle.std.specs.Ordering.{MatchOrdering, is_lt, is_gt, ordering_reverse, ordering_then, nat_cmp}
+use Rattle.std.specs.Ordering.{MatchOrdering, is_lt, is_gt, ordering_then, nat_cmp}
 use Rattle.std.specs.Cmp.Lexicographic.{slice_cmp}
 
 -- numbers that the order of numbers calls equal are the same

@@ -1,5 +1,5 @@
 -- What the reader has not read, and the line that leads it.
-use Rattle.std.proofs.Common.{◌≡◌, ℕ, ◌+◌, ◌-◌, ◌<◌, ◌≤◌, List, [], ◌∷◌, ◌++◌, length, take, drop, Some, None, Ok, Err, Option, sym, refl, ap, ◌∙◌, subst, append_assoc, add_assoc, arith, length-drop, MatchOption}
+use Rattle.std.proofs.Common.{◌≡◌, ℕ, ◌+◌, ◌-◌, ◌<◌, ◌≤◌, List, [], ◌∷◌, ◌++◌, length, take, drop, Some, None, Ok, Err, Option, sym, ap, ◌∙◌, subst, append_assoc, add_assoc, arith, length-drop, MatchOption}
 use Rattle.std.proofs.lemmas.List.{take_rest, drop_all, drop-drop, drop_at, length_push}
 use Rattle.lines.specs.declared.faults.LineFault.TheVariants.{NotARecord}
 use Rattle.lines.specs.declared.fields.Fields.{Fields}

@@ -1,5 +1,5 @@
 -- Reading all lines into rows, line by line.
-use Rattle.std.proofs.Common.{◌≡◌, ℕ, zero, suc, ◌+◌, ◌-◌, ◌<◌, ◌≤◌, List, [], ◌∷◌, ◌++◌, length, take, drop, set, Some, None, Ok, Err, Option, Result, sym, refl, ap, ◌∙◌, subst, append_assoc, append-nil, arith, length-set}
+use Rattle.std.proofs.Common.{◌≡◌, ℕ, suc, ◌+◌, ◌-◌, ◌<◌, ◌≤◌, List, [], ◌∷◌, ◌++◌, length, take, drop, set, Some, None, Ok, Err, Option, sym, refl, ap, ◌∙◌, subst, append_assoc, append-nil, arith, length-set}
 use Rattle.std.proofs.lemmas.List.{take_more_set, take-append-drop, drop-set-lt, drop-drop, length-take-le}
 use Rattle.lines.specs.declared.faults.LineFault.{LineFault}
 use Rattle.lines.specs.declared.faults.LineFault.TheVariants.{NotARecord, NoRow}
@@ -10,7 +10,7 @@ use Rattle.lines.specs.Layout.{record_of}
 use Rattle.lines.specs.Parts.{parts}
 use Rattle.lines.specs.Peeks.{Gives}
 use Rattle.lines.specs.Readers.{left, next_of, reading_of, answered, ReadAll}
-use Rattle.lines.specs.Reading.{next, at_end, at_line, Reading, stopped, with, at_row, reading}
+use Rattle.lines.specs.Reading.{next, at_line, Reading, stopped, with, at_row, reading}
 use Rattle.lines.proofs.Cuts.{parts_some}
 
 -- ---- what is read, by what the next line says

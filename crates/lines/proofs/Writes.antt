@@ -1,5 +1,5 @@
 -- Lawful lines written out read back.
-use Rattle.std.proofs.Common.{◌≡◌, ℕ, zero, suc, ◌+◌, ◌-◌, ◌*◌, ◌/◌, ◌%◌, ◌^◌, ◌<◌, ◌≤◌, Bool, true, false, cond, ◌&&◌, eqb, leb, List, [], ◌∷◌, ◌++◌, map, length, replicate, Some, None, Option, sym, refl, ap, ◌∙◌, subst, append_assoc, arith, length-append}
+use Rattle.std.proofs.Common.{◌≡◌, ℕ, zero, suc, ◌+◌, ◌-◌, ◌*◌, ◌/◌, ◌%◌, ◌^◌, ◌<◌, ◌≤◌, Bool, true, ◌&&◌, eqb, leb, List, [], ◌∷◌, ◌++◌, map, length, replicate, Some, None, sym, refl, ap, ◌∙◌, subst, append_assoc, arith, length-append}
 use Rattle.std.specs.List.{AllByRecursion as All}
 use Rattle.std.proofs.lemmas.Fmt.{decimal_by_steps, decimal_nonempty}
 use Rattle.std.proofs.ByRecursion.{All-append, All-push}
@@ -10,7 +10,7 @@ use Rattle.lines.specs.declared.kind.Kind.TheVariants.{Dipole, Quadrupole, Sextu
 use Rattle.lines.specs.declared.record.Record.{Record}
 use Rattle.lines.specs.Kinds.{letter_of}
 use Rattle.lines.specs.Laws.{padded, Says, file_of, ReadsBack}
-use Rattle.lines.specs.Layout.{every, given, when, circuit_byte, is_circuit, circuit_of, kind_of_one, digit_of, value_from, number_of, limit_of, chain_of, to_record, of_fields, of_parts, record_of}
+use Rattle.lines.specs.Layout.{every, given, when, circuit_byte, is_circuit, circuit_of, kind_of_one, digit_of, value_from, number_of, limit_of, chain_of, to_record, of_parts, record_of}
 use Rattle.texts.specs.Numbers.{digits}
 use Rattle.lines.specs.Parts.{onto, parts}
 use Rattle.lines.specs.Reading.{Reading, with, at_row, reading}

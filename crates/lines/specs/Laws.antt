@@ -3,14 +3,14 @@
 --     file_of ls               the lines, each with its end
 --     ReadsBack              a file that is lawful lines written out reads back as those records
 --     SameAnswer             files that agree up to the end of the first refused line get the same answer
-use Rattle.std.specs.Prelude.{◌≡◌, ℕ, ◌+◌, ◌≤◌, true, List, [], ◌∷◌, ◌++◌, map, length, replicate, Some, None}
+use Rattle.std.specs.Prelude.{◌≡◌, ℕ, ◌≤◌, true, List, [], ◌∷◌, ◌++◌, map, length, replicate, Some, None}
 use Rattle.std.specs.List.{flat_map, AllByRecursion as All}
 use Rattle.lines.specs.declared.faults.LineFault.{LineFault}
 use Rattle.lines.specs.declared.record.Record.{Record}
 use Rattle.lines.specs.Kinds.{letter_of}
 use Rattle.lines.specs.Layout.{is_circuit, filled}
 use Rattle.texts.specs.Numbers.{digits}
-use Rattle.lines.specs.Reading.{Reading, read_whole}
+use Rattle.lines.specs.Reading.{read_whole}
 
 -- a number behind some zeros
 abbrev pub padded : ℕ → ℕ → List ℕ

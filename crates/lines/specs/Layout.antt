@@ -4,7 +4,7 @@
 --     filled bs                   twelve bytes: those of bs, and zero bytes behind them
 --     record_of line               the record that the line says, if it is one in the layout
 --     Lawful r                    r is inside the limits of the layout
-use Rattle.std.specs.Prelude.{◌≡◌, ℕ, ◌+◌, ◌-◌, ◌*◌, ◌≤◌, min, Bool, true, false, cond, ◌&&◌, ◌||◌, List, [], ◌∷◌, ◌++◌, length, take, replicate, Some, None, Option, ◌==◌, nat_le}
+use Rattle.std.specs.Prelude.{◌≡◌, ℕ, ◌+◌, ◌-◌, ◌*◌, ◌≤◌, Bool, true, false, cond, ◌&&◌, ◌||◌, List, [], ◌∷◌, ◌++◌, length, take, replicate, Some, None, Option, ◌==◌, nat_le}
 use Rattle.std.proofs.Common.{arith, length-take, length-append}
 use Rattle.std.proofs.lemmas.List.{length-replicate}
 use Rattle.lines.specs.declared.kind.Kind.{Kind}

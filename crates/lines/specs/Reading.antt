@@ -3,7 +3,7 @@
 --     next n ps             what the next line, number n, says where the parts of what is left are ps
 --     read_whole file free   what reading a whole file does, with `free` rows
 --     reading n p free ps   what reading all that is left does, after n lines and from the place p on, with `free` rows
-use Rattle.std.specs.Prelude.{◌≡◌, ℕ, zero, suc, ◌+◌, List, [], ◌∷◌, length, Some, None, Ok, Err, Option, Result}
+use Rattle.std.specs.Prelude.{ℕ, zero, suc, ◌+◌, List, [], ◌∷◌, length, Some, None, Ok, Err, Option, Result}
 use Rattle.lines.specs.declared.faults.LineFault.{LineFault}
 use Rattle.lines.specs.declared.faults.LineFault.TheVariants.{NotARecord, NoRow}
 use Rattle.lines.specs.declared.record.Record.{Record}

@@ -2,7 +2,7 @@
 --     Both E                  what the two dictionaries mean
 --     building order xs       names what the list xs is made of, round by round, and answers its signature or the first Full
 -- The steps go on until one is refused; what was named before stays.
-use Rattle.std.specs.Prelude.{ℕ, zero, suc, ◌+◌, ◌*◌, cond, List, [], ◌∷◌, ◌++◌, map, length, take, drop, Ok, Err, Result, ◌==◌}
+use Rattle.std.specs.Prelude.{ℕ, zero, suc, ◌+◌, ◌*◌, cond, List, [], ◌∷◌, length, take, drop, Ok, Err, Result, ◌==◌}
 use Rattle.std.specs.declared.cmp.Ordering.{Ordering}
 use Rattle.cutting.specs.Blocks.{blocks}
 use Rattle.dictionary.specs.Does.{Out, out}

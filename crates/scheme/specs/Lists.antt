@@ -3,7 +3,7 @@
 --     Base r c xs         the composition c, an element or a block of round r, stands for xs
 --     Whole r c xs        c, which may be a power too, stands for xs
 -- The lengths that compositions hold are those of their lists. Keys that no building named may be anything.
-use Rattle.std.specs.Prelude.{◌≡◌, ℕ, zero, suc, ◌+◌, ◌*◌, ◌≤◌, ◌⊎◌, List, [], ◌∷◌, ◌++◌, map, length, Some}
+use Rattle.std.specs.Prelude.{◌≡◌, ℕ, zero, suc, ◌≤◌, ◌⊎◌, List, [], ◌∷◌, ◌++◌, map, length, Some}
 use Rattle.std.specs.List.{flat_map, AllByRecursion as All}
 use Rattle.dictionary.specs.Meaning.{key_of}
 use Rattle.scheme.specs.declared.composition.Composition.{Composition}

@@ -1,5 +1,5 @@
 -- The laws of the composition as a key.
-use Rattle.std.specs.Prelude.{◌≡◌, ℕ, suc, ◌+◌, ◌-◌, ◌*◌, ◌/◌, ◌%◌, ◌<◌, ◌≤◌, List, [], ◌∷◌, ◌++◌, length, take, drop, slice_index, refl}
+use Rattle.std.specs.Prelude.{◌≡◌, ℕ, suc, ◌-◌, ◌*◌, ◌/◌, ◌%◌, ◌<◌, ◌≤◌, List, [], ◌∷◌, length, take, drop, slice_index, refl}
 use Rattle.std.specs.declared.cmp.Ordering.TheVariants.{Equal}
 use Rattle.std.proofs.Common.{sym, ap, ◌∙◌, arith, inl, inr}
 use Rattle.std.specs.List.{flat_map}
@@ -9,7 +9,7 @@ use Rattle.dictionary.specs.Spelling.{four}
 use Rattle.dictionary.specs.Orders.{both_equal, same_number}
 use Rattle.dictionary.proofs.Spelling.{four_apart}
 use Rattle.scheme.specs.declared.composition.Composition.{Composition}
-use Rattle.scheme.specs.Compositions.{in_parts, in_order, numbers, spelled}
+use Rattle.scheme.specs.Compositions.{in_order, numbers, spelled}
 use Rattle.std.specs.Ordering.{nat_cmp}
 
 pub same_composition : (x y : Composition) → x.kind ≡ y.kind → x.round ≡ y.round → x.length ≡ y.length → x.p1 ≡ y.p1 → x.p2 ≡ y.p2 → x.p3 ≡ y.p3 → x.p4 ≡ y.p4 → x.p5 ≡ y.p5 → x.p6 ≡ y.p6 → x ≡ y

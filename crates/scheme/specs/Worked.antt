@@ -2,11 +2,11 @@
 --     built n m xs       building xs over empty dictionaries of n and m rows
 --     next d xs          building xs after the building d
 --     WorkedLists       what the rule says of the lists AAAAA; AB, ABAB, A and BAB; ABABAB; ABCDEFGH and ACEGBDFH; AAB and AA; AB
-use Rattle.std.specs.Prelude.{◌≡◌, ℕ, List, [], ◌∷◌, ◌++◌, length, drop, Ok, Err, codes, Result}
+use Rattle.std.specs.Prelude.{◌≡◌, ℕ, List, [], ◌∷◌, length, drop, Ok, Err, codes}
 use Rattle.dictionary.specs.Meaning.{new, full}
 use Rattle.scheme.specs.declared.composition.Composition.{Composition}
 use Rattle.scheme.specs.declared.faults.BuildFault.TheVariants.{Elements, Compositions}
-use Rattle.scheme.specs.Building.{Both, both, Doing, entry, building}
+use Rattle.scheme.specs.Building.{both, Doing, entry, building}
 use Rattle.scheme.specs.Compositions.{Entry, element, power, block}
 use Rattle.std.specs.Ordering.{nat_cmp}
 

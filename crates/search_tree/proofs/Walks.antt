@@ -1,7 +1,7 @@
 -- The walk through a search tree, step by step. Assumes nothing.
 use Rattle.std.proofs.Common.{◌≡◌, ℕ, zero, suc, ◌+◌, ◌-◌, ◌*◌, ◌<◌, ◌≤◌, min, List, length, get_or, Ordering, Less, Equal, Greater, sym, refl, ap, ◌∙◌, arith}
 use Rattle.std.proofs.lemmas.Bool.Decides.{nat_tests}
-use Rattle.search_tree.specs.Tree.{Links, root, pick, walk, found, turns, sought, keys, lefts, rights, Linked, ends}
+use Rattle.search_tree.specs.Tree.{root, pick, walk, found, turns, keys, lefts, rights, Linked, ends}
 use Rattle.search_tree.specs.declared.row.TreeRow.{TreeRow}
 use Rattle.search_tree.specs.declared.row.Spot.{Spot}
 use Rattle.search_tree.specs.declared.row.Spot.TheVariants.{Here, Root, Left, Right}

@@ -1,11 +1,11 @@
 -- What a naming answers and leaves, and what a later naming of the same key does. Assumes nothing.
-use Rattle.std.proofs.Common.{◌≡◌, ℕ, zero, suc, ◌+◌, ◌<◌, ◌≤◌, Bool, true, false, cond, ltb, List, [], ◌∷◌, ◌++◌, length, Some, None, Ok, Err, Option, Result, Ordering, Less, Equal, Greater, sym, refl, ap, ◌∙◌, subst, inl, inr, arith}
+use Rattle.std.proofs.Common.{◌≡◌, ℕ, suc, ◌+◌, ◌<◌, ◌≤◌, Bool, true, false, cond, ltb, List, [], ◌∷◌, ◌++◌, length, Some, None, Ok, Err, Option, Result, Ordering, Less, Equal, Greater, sym, refl, ap, ◌∙◌, subst, inl, inr, arith}
 use Rattle.std.specs.List.{slice_get}
 use Rattle.std.specs.Ordering.{is_eq}
 use Rattle.std.proofs.lemmas.List.{append-nil, length_push}
-use Rattle.std.proofs.lemmas.Bool.{cases_Bool, cond-true, cond-false, ltb-true, ltb-false, le-ltb}
+use Rattle.std.proofs.lemmas.Bool.{cases_Bool, cond-true, cond-false, ltb-true, ltb-false}
 use Rattle.dictionary.specs.Does.{Out, out}
-use Rattle.dictionary.specs.Meaning.{Meaning, meaning, more, asked, full, key_of, number_from, number_of, append, name_at, naming}
+use Rattle.dictionary.specs.Meaning.{Meaning, meaning, more, asked, full, key_of, number_from, number_of, name_at, naming}
 use Rattle.dictionary.specs.declared.refusals.Full.{Full}
 use Rattle.scheme.specs.Standing.{Longer}
 

@@ -1,19 +1,19 @@
 -- Growing, settling and quiet computations. Assumes nothing.
-use Rattle.std.proofs.Common.{◌≡◌, ℕ, ◌+◌, List, [], length, Ok, Err, Result, Ordering, Equal, sym, refl, ap, ◌∙◌, subst, arith}
+use Rattle.std.proofs.Common.{◌≡◌, ℕ, ◌+◌, length, Ok, Err, Result, Ordering, Equal, sym, refl, ap, ◌∙◌, subst, arith}
 use Rattle.std.specs.Cmp.{nat_cmp_total, then_total, on_total}
 use Rattle.dictionary.specs.Orders.{itself, by_parts}
-use Rattle.dictionary.specs.Does.{Out, out}
-use Rattle.dictionary.specs.Meaning.{Meaning, asked, number_of, naming}
+use Rattle.dictionary.specs.Does.{out}
+use Rattle.dictionary.specs.Meaning.{Meaning, asked, naming}
 use Rattle.dictionary.specs.declared.refusals.Full.{Full}
 use Rattle.scheme.specs.declared.composition.Composition.{Composition}
 use Rattle.scheme.specs.declared.faults.BuildFault.{BuildFault}
 use Rattle.scheme.specs.declared.faults.BuildFault.TheVariants.{Elements, Compositions}
 use Rattle.scheme.specs.Compositions.{in_parts, in_order}
 use Rattle.scheme.specs.Building.{Both, both, Doing, and_then, follow, name_element, name_composition}
-use Rattle.scheme.specs.Standing.{Longer, Grown, Kept}
+use Rattle.scheme.specs.Standing.{Grown, Kept}
 use Rattle.signatures.specs.Laws.{Onward, Again, Same, Growing, Settling, Quiet}
 use Rattle.signatures.proofs.Keeping.{same_longer, itself_kept, kept_on, kept_grown, kept_onward, grown_on, grown_onward, onward_on}
-use Rattle.signatures.proofs.Namings.{Ways, old, new, refused, ways, name_longer, name_room, name_found, name_known, number_kept, Alike, name_alike}
+use Rattle.signatures.proofs.Namings.{old, new, refused, ways, name_longer, name_room, name_found, name_known, number_kept, name_alike}
 use Rattle.signatures.proofs.Steps.{Closed}
 
 -- ---- the two namings, by what the dictionary answers

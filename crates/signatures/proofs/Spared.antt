@@ -1,14 +1,14 @@
 -- Computations over dictionaries that take no key more: they name nothing, and ask no more than over dictionaries that may grow. Assumes nothing.
-use Rattle.std.proofs.Common.{◌≡◌, ℕ, ◌+◌, ◌≤◌, min, List, [], length, Ok, Err, Result, Ordering, Equal, sym, refl, ap, ◌∙◌, subst, arith}
+use Rattle.std.proofs.Common.{◌≡◌, ℕ, ◌≤◌, [], length, Ok, Err, Result, Ordering, Equal, sym, refl, ap, ◌∙◌, subst, arith}
 use Rattle.std.proofs.lemmas.List.{append-nil}
-use Rattle.dictionary.specs.Meaning.{Meaning, more, asked, naming}
+use Rattle.dictionary.specs.Meaning.{more, naming}
 use Rattle.scheme.specs.declared.composition.Composition.{Composition}
 use Rattle.scheme.specs.declared.faults.BuildFault.{BuildFault}
 use Rattle.scheme.specs.Compositions.{in_order}
 use Rattle.scheme.specs.Building.{Both, Doing, and_then, follow, name_element, name_composition}
 use Rattle.scheme.specs.Standing.{Kept, frozen}
-use Rattle.signatures.specs.Laws.{Again, Fewer, Counted, Spare, Settling, Frugal}
-use Rattle.signatures.proofs.Keeping.{itself_kept, kept_back, kept_on, kept_onward}
+use Rattle.signatures.specs.Laws.{Fewer, Counted, Frugal}
+use Rattle.signatures.proofs.Keeping.{itself_kept, kept_on}
 use Rattle.signatures.proofs.Namings.{name_full, name_asks}
 use Rattle.signatures.proofs.Settled.{Settled, settling}
 use Rattle.signatures.proofs.Steps.{Closed}

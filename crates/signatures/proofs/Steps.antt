@@ -1,6 +1,6 @@
 -- One induction over building: it is made of answers, of steps one after the other, and of namings in either dictionary. What holds of those and goes through steps holds of all. Assumes nothing.
-use Rattle.std.proofs.Common.{ℕ, zero, suc, ◌+◌, ◌*◌, List, [], ◌∷◌, length, Ok, Err, Ordering}
-use Rattle.dictionary.specs.Does.{Out, out}
+use Rattle.std.proofs.Common.{ℕ, zero, suc, ◌+◌, ◌*◌, List, [], ◌∷◌, length, Ok, Ordering}
+use Rattle.dictionary.specs.Does.{out}
 use Rattle.scheme.specs.declared.composition.Composition.{Composition}
 use Rattle.scheme.specs.Compositions.{Entry, element, power, block}
 use Rattle.scheme.specs.Building.{Both, Doing, entry, runs_of, blocks_of, follow, name_element, name_composition, in_front, name_power, name_powers, name_blocks, risen, rising, name_elements, building}

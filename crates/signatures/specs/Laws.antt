@@ -5,7 +5,7 @@
 --     Quiet f           how often the dictionaries were asked says nothing of what it answers and names
 --     Frugal f          over frozen dictionaries it names nothing, and asks each no more often than over those that may grow
 --     Grows, Settles, StaysQuiet, StaysFrugal     building has these properties
-use Rattle.std.specs.Prelude.{◌≡◌, ℕ, ◌≤◌, List, Ok}
+use Rattle.std.specs.Prelude.{◌≡◌, ◌≤◌, List, Ok}
 use Rattle.std.specs.declared.cmp.Ordering.{Ordering}
 use Rattle.scheme.specs.Building.{Both, Doing, building}
 use Rattle.scheme.specs.Standing.{Longer, Grown, Kept, frozen}

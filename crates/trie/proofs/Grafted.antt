@@ -1,15 +1,15 @@
 -- The trie in the rows, as the code has them. Assumes nothing.
-use Rattle.std.proofs.Common.{◌≡◌, ℕ, suc, ◌+◌, ◌-◌, ◌^◌, ◌<◌, ◌≤◌, Bool, true, false, not, ◌⊎◌, List, [], ◌∷◌, ◌++◌, map, length, get_or, drop, set, sym, refl, ap, ◌∙◌, subst, inl, inr, ⊎_elim, add-one, arith}
+use Rattle.std.proofs.Common.{◌≡◌, ℕ, suc, ◌+◌, ◌-◌, ◌^◌, ◌<◌, ◌≤◌, Bool, true, false, not, ◌⊎◌, List, [], ◌∷◌, ◌++◌, length, get_or, drop, set, sym, refl, ap, ◌∙◌, subst, inl, inr, ⊎_elim, add-one, arith}
 use Rattle.std.proofs.lemmas.List.{length-set, drop-set-lt}
 use Rattle.std.proofs.lemmas.Bool.{cases_lt, cases_eq}
 use Rattle.trie.specs.Bits.{bit, number, PartAt}
 use Rattle.dictionary.specs.Facts.{held_long}
 use Rattle.dictionary.specs.Rows.{column}
-use Rattle.trie.specs.Trie.{Under, at, go, Ends, ends_at, ends_on, Good, Goods, Sorted, Linked, Places, InPlace, SideAt, SlotAt, Turned, Way, bits_of, side, child, crits, keys}
+use Rattle.trie.specs.Trie.{Under, at, go, Ends, ends_at, ends_on, Good, Goods, Sorted, Linked, Places, InPlace, SideAt, Turned, Way, bits_of, side, child, crits, keys}
 use Rattle.trie.specs.TrieFacts.{goods}
 use Rattle.trie.specs.declared.row.TrieRow.{TrieRow}
 use Rattle.trie.specs.declared.row.Slot.{Slot}
-use Rattle.trie.specs.declared.row.Slot.TheVariants.{Root, Left, Right}
+use Rattle.trie.specs.declared.row.Slot.TheVariants.{Root}
 use Rattle.trie.proofs.Grafts.{Grown, sides, goods_grown, root_kept, root_new, into, new_under, still, nodes_grown}
 use Rattle.dictionary.proofs.Held.{old_of, new_of, held_more, held_kept, column_same, column_other, column_kept}
 

@@ -1,7 +1,7 @@
 -- The way to where a new inner node belongs, step by step. Assumes nothing.
-use Rattle.std.proofs.Common.{◌≡◌, ℕ, ◌+◌, ◌-◌, ◌^◌, ◌<◌, ◌≤◌, Bool, true, false, List, length, get_or, Some, None, Option, sym, refl, ap, ◌∙◌, subst, arith}
+use Rattle.std.proofs.Common.{◌≡◌, ℕ, ◌+◌, ◌-◌, ◌<◌, ◌≤◌, Bool, true, false, List, length, get_or, Some, None, Option, sym, refl, ap, ◌∙◌, subst, arith}
 use Rattle.trie.specs.Bits.{number}
-use Rattle.trie.specs.Trie.{Under, go, Ends, Good, Linked, Places, SideAt, SlotAt, SideTurned, Turned, Way, Passes, Hooked, side, child, crits}
+use Rattle.trie.specs.Trie.{Under, go, Good, Linked, Places, SideAt, SlotAt, SideTurned, Turned, Way, Passes, Hooked, side, child, crits}
 use Rattle.trie.specs.declared.row.Hook.{Hook}
 use Rattle.trie.specs.declared.row.TrieRow.{TrieRow}
 use Rattle.trie.specs.declared.row.Slot.{Slot}

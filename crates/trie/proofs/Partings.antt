@@ -1,7 +1,7 @@
 -- Where bytes and spellings first differ. Assumes nothing.
-use Rattle.std.proofs.Common.{◌≡◌, ℕ, suc, ◌+◌, ◌-◌, ◌*◌, ◌/◌, ◌%◌, ◌^◌, ◌<◌, ◌≤◌, Bool, true, false, eqb, ◌⊎◌, List, length, get_or, sym, refl, ap, ◌∙◌, subst, inl, inr, ⊎_elim, arith, pow_mono}
+use Rattle.std.proofs.Common.{◌≡◌, ℕ, suc, ◌+◌, ◌-◌, ◌*◌, ◌/◌, ◌%◌, ◌^◌, ◌<◌, ◌≤◌, eqb, List, get_or, sym, ap, ◌∙◌, subst, ⊎_elim, arith, pow_mono}
 use native.Mathlib.Nat.{div-eq_of_lt}
-use lib.Bits.{bit_xor, xor_self, xor_zero_l, xor_zero_r, xor_assoc, xor_shr, xor_mod, xor_lt}
+use lib.Bits.{bit_xor, xor_self, xor_zero_l, xor_zero_r, xor_assoc, xor_shr, xor_mod}
 use lib.Count.{count_leading_zeros}
 use Rattle.std.proofs.lemmas.Nat.{leading_top, div-mul-add, mod-mul-add, div_below, le-div, pow_pos}
 use Rattle.std.proofs.lemmas.Bool.{cases_lt}

@@ -1,9 +1,8 @@
 -- The walk through a trie, step by step. Assumes nothing.
-use Rattle.std.proofs.Common.{◌≡◌, ℕ, ◌+◌, ◌-◌, ◌*◌, ◌^◌, ◌<◌, ◌≤◌, Bool, true, false, cond, ltb, List, [], map, length, get_or, sym, refl, ap, ◌∙◌, subst, arith}
+use Rattle.std.proofs.Common.{◌≡◌, ℕ, ◌+◌, ◌-◌, ◌^◌, ◌<◌, ◌≤◌, Bool, cond, ltb, List, length, get_or, sym, refl, ap, ◌∙◌, subst, arith}
 use Rattle.std.proofs.lemmas.Bool.Decides.{nat_tests}
 use Rattle.trie.specs.Bits.{number}
-use Rattle.dictionary.specs.Rows.{column}
-use Rattle.trie.specs.Trie.{Under, Ends, ends_at, ends_on, Good, Goods, Linked, Places, Passes, side, child, crits}
+use Rattle.trie.specs.Trie.{Ends, ends_at, ends_on, Good, Linked, Places, side, child, crits}
 use Rattle.trie.specs.TrieFacts.{goods}
 use Rattle.trie.specs.declared.row.TrieRow.{TrieRow}
 use Rattle.dictionary.proofs.Held.{column_at}

@@ -6,11 +6,10 @@
 --     Good      a link to a leaf, or to an inner node that tests a late enough bit
 --     Node      what an inner node says of the leaves under it
 --     Sorted    all nodes do, and each leaf lies under the root
-use Rattle.std.specs.Prelude.{◌≡◌, ℕ, ◌+◌, ◌-◌, ◌^◌, ◌<◌, ◌≤◌, Bool, true, false, List, [], map, length, Some, None, Option, slice_index_or}
+use Rattle.std.specs.Prelude.{◌≡◌, ℕ, ◌+◌, ◌-◌, ◌^◌, ◌<◌, ◌≤◌, Bool, true, false, List, [], map, Some, None, Option, slice_index_or}
 use Rattle.std.specs.List.{slice_get}
 use Rattle.trie.specs.Bits.{bit, number, PartAt}
 use Rattle.dictionary.specs.Rows.{held, column}
-use Rattle.trie.specs.declared.place.Place.{Place}
 use Rattle.trie.specs.declared.row.TrieRow.{TrieRow}
 use Rattle.trie.specs.declared.row.Met.{Met}
 use Rattle.trie.specs.declared.row.Met.TheVariants.{Here, Apart, Nothing}

@@ -1,14 +1,11 @@
 -- No key stands at two places of a trie: here, since a ghost member cites it. Assumes nothing.
-use Rattle.std.specs.Prelude.{◌≡◌, ℕ, zero, suc, ◌-◌, ◌<◌, ◌≤◌, min, Bool, true, false, List, [], ◌∷◌, map, length, Some, slice_index_or}
+use Rattle.std.specs.Prelude.{◌≡◌, ℕ, zero, suc, ◌-◌, ◌<◌, ◌≤◌, Bool, true, false, List, [], ◌∷◌, map, length, Some, slice_index_or}
 use Rattle.std.proofs.Common.{sym, ap, subst, ◌∙◌, arith}
 use Rattle.std.specs.List.{slice_get}
 use Rattle.trie.specs.Bits.{bit}
 use Rattle.dictionary.specs.Facts.{held_long, nth_below}
-use Rattle.dictionary.specs.Meaning.{most}
 use Rattle.trie.specs.Trie.{Under, at, go, Good, Goods, Node, bits_of, keys, child, crits, Linked, Rooted, InPlace}
-use Rattle.trie.specs.TrieMeaning.{meaning_of, Sound}
 use Rattle.trie.specs.declared.row.TrieRow.{TrieRow}
-use Rattle.trie.specs.declared.table.TrieTable.{TrieTable}
 
 -- no two leaves under one link have the same bits
 module _ (crit : ℕ → ℕ) (child : Bool → ℕ → ℕ) (bits : ℕ → ℕ → Bool) (n : ℕ) (goods : (b : Bool) → Goods crit n (child b)) (nodes : (m : ℕ) → (0 < m) × (m < n) → Node child crit bits m) where

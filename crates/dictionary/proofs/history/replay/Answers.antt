@@ -1,6 +1,5 @@
-use Rattle.std.proofs.Common.{◌≡◌, ◌+◌, ◌<◌, ◌≤◌, List, ◌∷◌, length, take, drop, sym, ap, ◌∙◌, arith, length-set, rules}
+use Rattle.std.proofs.Common.{◌+◌, ◌<◌, ◌∷◌, length, take, drop, sym, ap, ◌∙◌, arith, length-set}
 use Rattle.std.proofs.lemmas.List.{length-take, drop_more, get_or-take}
-use Rattle.dictionary.specs.Histories.{Ran}
 use Rattle.dictionary.proofs.Runs.{going_on, ran, ran_keeps}
 use Rattle.dictionary.proofs.history.replay.Goals as goal
 

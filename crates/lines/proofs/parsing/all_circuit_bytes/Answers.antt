@@ -1,6 +1,6 @@
 use Rattle.lines.proofs.Bytes.{every_more, every_stops, every_all}
 use Rattle.lines.specs.Layout.{circuit_byte}
-use Rattle.std.proofs.Common.{sym, ◌∙◌}
+use Rattle.std.proofs.Common.{sym}
 use Rattle.lines.proofs.parsing.all_circuit_bytes.Goals as goal
 
 pub loop-b-preserved : goal.loop-b-preserved

@@ -1,4 +1,4 @@
-use Rattle.std.proofs.Common.{◌+◌, ◌*◌, ◌^◌, ◌<◌, length, sym, ◌∙◌, arith}
+use Rattle.std.proofs.Common.{◌+◌, ◌*◌, ◌^◌, ◌<◌, arith}
 use Rattle.lines.proofs.Values.{value_more, value_stops, value_all, value_below, value_fits}
 use Rattle.lines.proofs.parsing.digits_value.Goals as goal
 

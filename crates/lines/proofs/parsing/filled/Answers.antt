@@ -1,4 +1,4 @@
-use Rattle.std.proofs.Common.{◌≡◌, ◌-◌, ◌++◌, length, ap, ◌∙◌, arith}
+use Rattle.std.proofs.Common.{arith}
 use Rattle.lines.proofs.Bytes.{filled_is}
 use Rattle.lines.proofs.parsing.filled.Goals as goal
 

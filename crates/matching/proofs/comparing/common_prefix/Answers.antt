@@ -1,4 +1,4 @@
-use Rattle.std.proofs.Common.{◌≡◌, ◌<◌, sym, ◌∙◌, length, arith}
+use Rattle.std.proofs.Common.{◌<◌, sym, ◌∙◌, length, arith}
 use Rattle.std.proofs.lemmas.Bool.{not-false}
 use Rattle.lines.specs.Records.{same_fields_decides}
 use Rattle.matching.proofs.Prefixes.{prefix_more}

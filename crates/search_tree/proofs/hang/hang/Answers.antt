@@ -1,4 +1,4 @@
-use Rattle.std.proofs.Common.{◌≡◌, ◌<◌, ◌≤◌, length, Equal, sym, refl, ◌∙◌, arith, length-set, rules}
+use Rattle.std.proofs.Common.{◌<◌, ◌≤◌, length, sym, refl, ◌∙◌, arith, length-set, rules}
 use Rattle.search_tree.specs.declared.row.Spot.TheVariants.{Left, Right}
 use Rattle.search_tree.proofs.Hung.{slot, hung_root, hung_left, hung_right}
 use Rattle.dictionary.specs.Orders.{itself}

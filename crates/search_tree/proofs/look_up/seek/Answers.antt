@@ -1,4 +1,4 @@
-use Rattle.std.proofs.Common.{◌≡◌, ◌<◌, ◌≤◌, min, sym, ◌∙◌, arith}
+use Rattle.std.proofs.Common.{◌≡◌, min, sym, arith}
 use Rattle.search_tree.specs.Tree.{turns, keys, lefts, rights}
 use Rattle.search_tree.proofs.Walks.{rest_start, go_left, go_right, stop_here, stop_there, falls_left, falls_right}
 use Rattle.search_tree.proofs.look_up.seek.Goals as goal

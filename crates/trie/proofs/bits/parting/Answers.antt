@@ -1,8 +1,7 @@
-use Rattle.std.proofs.Common.{◌≡◌, ℕ, ◌^◌, ◌<◌, ◌≤◌, length, get_or, sym, ap, ◌∙◌, arith, rules, below_more}
+use Rattle.std.proofs.Common.{◌≡◌, ◌^◌, ◌<◌, length, sym, ◌∙◌, arith, rules, below_more}
 use lib.Bits.{bit_xor}
 use Rattle.std.proofs.lemmas.Nat.{xor_lt}
 use Rattle.std.proofs.lemmas.List.{ext_get_or}
-use Rattle.trie.specs.Bits.{bit_of}
 use Rattle.trie.proofs.Partings.{xor_equal, zeros_below, bits_differ, bits_agree, part_at, differ_on, agree_on}
 use Rattle.trie.proofs.bits.parting.Goals as goal
 

@@ -1,4 +1,4 @@
-use Rattle.std.proofs.Common.{◌≡◌, ◌<◌, ◌≤◌, true, false, sym, ◌∙◌, arith}
+use Rattle.std.proofs.Common.{true, false, sym, ◌∙◌, arith}
 use Rattle.trie.specs.Bits.{bit, number}
 use Rattle.trie.proofs.Hooks.{hook_start, hook_leaf, hook_there, hook_same, hook_left, hook_right}
 use Rattle.trie.proofs.Steps.{falls, place_fits}

@@ -1,4 +1,4 @@
-use Rattle.std.proofs.Common.{◌≡◌, ◌-◌, ◌<◌, ◌≤◌, ◌⊎◌, Ok, sym, ap, ◌∙◌, inl, inr, ⊎_elim, arith}
+use Rattle.std.proofs.Common.{◌-◌, Ok, sym, ap, ◌∙◌, inl, inr, ⊎_elim, arith}
 use Rattle.trie.specs.Trie.{keys}
 use Rattle.dictionary.specs.Facts.{held_long}
 use Rattle.dictionary.proofs.Held.{held_nth}

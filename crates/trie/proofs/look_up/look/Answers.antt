@@ -1,4 +1,4 @@
-use Rattle.std.proofs.Common.{◌≡◌, [], Some, sym, ap, ◌∙◌, subst}
+use Rattle.std.proofs.Common.{[], Some, sym, ap, ◌∙◌, subst}
 use Rattle.trie.specs.Bits.{bit, number, PartAt}
 use Rattle.dictionary.proofs.Held.{held_nth, held_of}
 use Rattle.trie.proofs.look_up.look.Goals as goal

@@ -1,4 +1,4 @@
-use Rattle.std.proofs.Common.{◌≡◌, ◌<◌, ◌≤◌, true, false, sym, ◌∙◌, arith}
+use Rattle.std.proofs.Common.{true, false, sym, ◌∙◌, arith}
 use Rattle.trie.specs.Bits.{bit}
 use Rattle.trie.proofs.Steps.{go_start, go_on, go_end, falls, place_fits}
 use Rattle.trie.proofs.look_up.seek.Goals as goal

@@ -1,4 +1,4 @@
-use Rattle.std.proofs.Common.{◌+◌, Some, None, sym, refl, ap, ◌∙◌}
+use Rattle.std.proofs.Common.{◌+◌, None, sym, refl, ap, ◌∙◌}
 use Rattle.lines.specs.Reading.{next}
 use Rattle.lines.specs.Readers.{left}
 use Rattle.lines.proofs.Lefts.{left_none, rest_some, next_unended, next_leads, gives}

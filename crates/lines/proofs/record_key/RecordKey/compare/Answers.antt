@@ -1,4 +1,4 @@
-use Rattle.std.proofs.Common.{◌≡◌, ap, ◌∙◌}
+use Rattle.std.proofs.Common.{◌∙◌}
 use Rattle.std.specs.Ordering.{ordering_then, nat_cmp}
 use Rattle.lines.proofs.record_key.RecordKey.compare.Goals as goal
 

@@ -1,6 +1,5 @@
-use Rattle.std.proofs.Common.{◌≡◌, ◌≤◌, length, Some, sym, refl, ap, ◌∙◌, add-one, arith}
-use Rattle.search_tree.specs.Tree.{found, keys, lefts, rights, ends}
-use Rattle.search_tree.proofs.Finds.{not_here, rows_none, rows_some}
+use Rattle.std.proofs.Common.{◌≤◌, length, refl, arith}
+use Rattle.search_tree.proofs.Finds.{rows_none, rows_some}
 use Rattle.dictionary.proofs.Numbers.{did_find}
 use Rattle.search_tree.proofs.table.TreeTable.find.Goals as goal
 

@@ -1,6 +1,6 @@
-use Rattle.std.proofs.Common.{◌≡◌, ℕ, ◌+◌, ◌<◌, ◌≤◌, min, length, drop, None, sym, refl, ap, ◌∙◌, arith}
-use Rattle.dictionary.specs.Meaning.{most, number_of}
-use Rattle.search_tree.specs.Tree.{keys, InOrder}
+use Rattle.std.proofs.Common.{◌≡◌, ◌+◌, ◌≤◌, length, drop, refl, ap, ◌∙◌, arith}
+use Rattle.dictionary.specs.Meaning.{most}
+use Rattle.search_tree.specs.Tree.{keys}
 use Rattle.search_tree.proofs.Finds.{rows_none, rows_some}
 use Rattle.dictionary.specs.Facts.{held_long}
 use Rattle.dictionary.proofs.Held.{drop_later}

@@ -1,4 +1,4 @@
-use Rattle.std.proofs.Common.{◌≡◌, ◌≤◌, length, sym, refl, ap, ◌∙◌, arith}
+use Rattle.std.proofs.Common.{◌≤◌, length, refl, arith}
 use Rattle.trie.proofs.Meetings.{met_here, met_other}
 use Rattle.dictionary.proofs.Numbers.{did_find}
 use Rattle.dictionary.specs.Orders.{itself}

@@ -1,4 +1,4 @@
-use Rattle.std.proofs.Common.{◌≡◌, ℕ, ◌+◌, ◌<◌, ◌≤◌, min, length, drop, sym, refl, ap, ◌∙◌, arith}
+use Rattle.std.proofs.Common.{◌≡◌, ◌+◌, ◌≤◌, length, drop, refl, ap, ◌∙◌, arith}
 use Rattle.trie.specs.Bits.{number}
 use Rattle.dictionary.specs.Facts.{held_long}
 use Rattle.dictionary.specs.Meaning.{most}

@@ -1,6 +1,4 @@
-use Rattle.std.proofs.Common.{◌≡◌, ℕ, ◌≤◌, length, None, sym, refl, ap, ◌∙◌, arith}
-use Rattle.dictionary.specs.Meaning.{most, number_of}
-use Rattle.trie.specs.Trie.{keys}
+use Rattle.std.proofs.Common.{◌≤◌, length, refl, arith}
 use Rattle.trie.proofs.Meetings.{met_here, met_apart, met_nothing}
 use Rattle.dictionary.proofs.Numbers.{did_old, did_append}
 use Rattle.dictionary.specs.Orders.{itself}
