@@ -1,6 +1,6 @@
 -- Every block has two to six names: the blocks as lists.
 use Rattle.std.proofs.Common.{◌≡◌, ℕ, suc, ◌+◌, ◌*◌, ◌<◌, ◌≤◌, Bool, true, false, ◌⊎◌, List, [], ◌∷◌, length, refl, ap, ◌∙◌, inl, inr, ⊎_elim, add-one, arith, length-append}
-use Rattle.std.specs.List.{AllByRecursion as All}
+use Rattle.std.specs.List.{AllByRecursion}
 use Rattle.std.proofs.lemmas.Bool.{both_ways, cases_eq, cases_order}
 use Rattle.cutting.specs.Rule.{begins, peak}
 use Rattle.cutting.specs.Rows.{at, Apart, AtMost}
@@ -26,7 +26,7 @@ record Cut (n : ℕ) (c : ℕ → ℕ) (i : ℕ) (bs : List (List ℕ)) : Type 0
   within : i + length first ≤ n
   ends : (i + length first ≡ n) ⊎ (begins n c (i + length first) ≡ true)
   inside : (k : ℕ) → i < k → k < i + length first → begins n c k ≡ false
-  fit : All Fit others
+  fit : AllByRecursion Fit others
 
 module _ (n : ℕ) (c : ℕ → ℕ) (l : 2 ≤ n) (apart : Apart n c) (small : AtMost 16777216 n c) where
   fits : (s : ℕ) (b : List ℕ) → begins n c s ≡ true → 0 < length b → s + length b ≤ n → (s + length b ≡ n) ⊎ (begins n c (s + length b) ≡ true)
@@ -80,10 +80,10 @@ blocks_fit (x ∷ xs) l h =
     let c = at (x ∷ xs) in
     let r = cut_from n c l h.0 h.1 0 x xs (omega arith) in
     let f : Fit r.first = fits n c l h.0 h.1 0 r.first refl r.some r.within r.ends r.inside in
-    let q : All Fit (r.first ∷ r.others) = (f, r.fit) in
+    let q : AllByRecursion Fit (r.first ∷ r.others) = (f, r.fit) in
     rw r.is q
 
-pub half_fit : (bs : List (List ℕ)) → All Fit bs → 2 * length bs ≤ length (flat bs)
+pub half_fit : (bs : List (List ℕ)) → AllByRecursion Fit bs → 2 * length bs ≤ length (flat bs)
 half_fit [] h = omega arith
 half_fit (b ∷ bs) h = simp length-append (omega (arith, h.0, half_fit bs h.1))
 

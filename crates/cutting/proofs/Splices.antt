@@ -1,6 +1,6 @@
 -- A row that keeps a front of one row and an end of another.
 use Rattle.std.proofs.Common.{◌≡◌, ℕ, ◌+◌, ◌-◌, ◌<◌, ◌≤◌, min, true, ◌⊎◌, List, [], ◌∷◌, ◌++◌, length, take, drop, sym, refl, ap, ◌∙◌, ap₂, inl, inr, ⊎_elim, zero-add, arith, length-append, length-drop, length-take}
-use Rattle.std.specs.List.{AllByRecursion as All}
+use Rattle.std.specs.List.{AllByRecursion}
 use Rattle.std.proofs.lemmas.List.{append_assoc, append-nil, get_or_append_left, get_or-append-add, take-append-drop, take-append-le, take_at, drop_at, drop-drop, nil_from_length}
 use Rattle.std.proofs.lemmas.Bool.{cases_lt}
 use Rattle.cutting.specs.Rows.{at, cuts}
@@ -165,7 +165,7 @@ reach_end Y Y' E e h =
     (parted (cuts Y) 0 (take s Y), parted (cuts Y) s (drop s Y), halves Y s (omega arith) r.3, (inr (omega arith), omega arith)))
     (λ (l : length E ≤ 12). (blocks Y, [], sym (append-nil (blocks Y)), (inl refl, omega arith))) (cases_lt 12 (length E))
 
-all_parts : (P : List ℕ → Type 0) (xs ys : List (List ℕ)) → All P (xs ++ ys) → All P xs × All P ys
+all_parts : (P : List ℕ → Type 0) (xs ys : List (List ℕ)) → AllByRecursion P (xs ++ ys) → AllByRecursion P xs × AllByRecursion P ys
 all_parts P [] ys h = (tt, h)
 all_parts P (x ∷ xs) ys h = let r = all_parts P xs ys h.1 in ((h.0, r.0), r.1)
 
@@ -178,8 +178,8 @@ splice_few F M E before after x y k =
     let size : length (flat k.new) ≤ length M + 24 = omega arith in (
       size,
       λ l h.
-          let fit : All Fit (before ++ (k.new ++ after)) = rw k.all at (blocks_fit (F ++ (M ++ E)) l h) in
-          let new : All Fit k.new = (all_parts Fit k.new after (all_parts Fit before (k.new ++ after) fit).1).0 in
+          let fit : AllByRecursion Fit (before ++ (k.new ++ after)) = rw k.all at (blocks_fit (F ++ (M ++ E)) l h) in
+          let new : AllByRecursion Fit k.new = (all_parts Fit k.new after (all_parts Fit before (k.new ++ after) fit).1).0 in
           omega (arith, half_fit k.new new),
     )
 

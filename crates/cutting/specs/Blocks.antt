@@ -12,7 +12,7 @@
 --     BlockAt           in a lawful row of two names or more a block of two to six names begins at each place where one begins
 --     BeginsNear        in a lawful row a block begins at one of any four places that follow each other, the first two places and the last one left out
 use Rattle.std.specs.Prelude.{◌≡◌, ℕ, suc, ◌+◌, ◌*◌, ◌<◌, ◌≤◌, Bool, true, false, ◌⊎◌, List, [], ◌∷◌, ◌++◌, length}
-use Rattle.std.specs.List.{flat_map, AllByRecursion as All}
+use Rattle.std.specs.List.{flat_map, AllByRecursion}
 use Rattle.cutting.specs.Rule.{begins}
 use Rattle.cutting.specs.Rows.{cuts, Apart, AtMost, Lawful}
 
@@ -38,7 +38,7 @@ abbrev pub BlocksPart : Type 0
 BlocksPart = (xs : List ℕ) → flat (blocks xs) ≡ xs
 
 abbrev pub BlocksFit : Type 0
-BlocksFit = (xs : List ℕ) → 2 ≤ length xs → Lawful xs → All Fit (blocks xs)
+BlocksFit = (xs : List ℕ) → 2 ≤ length xs → Lawful xs → AllByRecursion Fit (blocks xs)
 
 abbrev pub BlocksHalf : Type 0
 BlocksHalf = (xs : List ℕ) → 2 ≤ length xs → Lawful xs → 2 * length (blocks xs) ≤ length xs

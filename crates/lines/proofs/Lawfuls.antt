@@ -1,6 +1,6 @@
 -- Every record that is read is lawful.
 use Rattle.std.proofs.Common.{◌≡◌, ℕ, zero, suc, ◌+◌, ◌≤◌, Bool, true, false, ◌&&◌, leb, List, [], ◌∷◌, length, Some, None, Option, refl, subst, arith}
-use Rattle.std.specs.List.{AllByRecursion as All}
+use Rattle.std.specs.List.{AllByRecursion}
 use Rattle.std.proofs.lemmas.Bool.{and_parts, leb-true}
 use Rattle.lines.specs.declared.kind.Kind.{Kind}
 use Rattle.lines.specs.declared.record.Record.{Record}
@@ -71,15 +71,15 @@ record_lawful line r e = of_parts_lem (parts 9 line) r e
 
 -- ---- files
 
-at_row_lem : (o : Option Record) (lines place free : ℕ) (rest : ℕ → Reading) → ((r : Record) → o ≡ Some r → Lawful r) → ((less : ℕ) → All Lawful (rest less).records) → All Lawful (at_row o lines place free rest).records
+at_row_lem : (o : Option Record) (lines place free : ℕ) (rest : ℕ → Reading) → ((r : Record) → o ≡ Some r → Lawful r) → ((less : ℕ) → AllByRecursion Lawful (rest less).records) → AllByRecursion Lawful (at_row o lines place free rest).records
 at_row_lem None lines place free rest h k = tt
 at_row_lem (Some r) lines place zero rest h k = tt
 at_row_lem (Some r) lines place (suc free) rest h k = (h r refl, k free)
 
-reading_lawful : (lines place free : ℕ) (ps : List (List ℕ)) → All Lawful (reading lines place free ps).records
+reading_lawful : (lines place free : ℕ) (ps : List (List ℕ)) → AllByRecursion Lawful (reading lines place free ps).records
 reading_lawful lines place free [] = tt
 reading_lawful lines place free (p ∷ []) = tt
 reading_lawful lines place free (p ∷ (q ∷ ps)) = at_row_lem (record_of p) lines place free _ (record_lawful p) (λ less. reading_lawful (lines + 1) (place + length p + 1) less (q ∷ ps))
 
-pub rows_lawful : (rd : LineReader) (free : ℕ) → All Lawful (reading_of rd free).records
+pub rows_lawful : (rd : LineReader) (free : ℕ) → AllByRecursion Lawful (reading_of rd free).records
 rows_lawful rd free = reading_lawful rd.lines rd.place free (left rd)

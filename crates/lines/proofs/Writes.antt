@@ -1,6 +1,6 @@
 -- Lawful lines written out read back.
 use Rattle.std.proofs.Common.{◌≡◌, ℕ, zero, suc, ◌+◌, ◌-◌, ◌*◌, ◌/◌, ◌%◌, ◌^◌, ◌<◌, ◌≤◌, Bool, true, ◌&&◌, eqb, leb, List, [], ◌∷◌, ◌++◌, map, length, replicate, Some, None, sym, refl, ap, ◌∙◌, subst, append_assoc, arith, length-append}
-use Rattle.std.specs.List.{AllByRecursion as All}
+use Rattle.std.specs.List.{AllByRecursion}
 use Rattle.std.proofs.lemmas.Fmt.{decimal_by_steps, decimal_nonempty}
 use Rattle.std.proofs.ByRecursion.{All-append, All-push}
 use Rattle.std.proofs.lemmas.Bool.{and_parts, and_from, cond-true, cond-false, ne_eqb, le-leb}
@@ -23,7 +23,7 @@ use Rattle.lines.specs.Records.{same_record}
 -- ---- lists that lack a byte
 
 abbrev Lacks : ℕ → List ℕ → Type 0
-Lacks b xs = All (λ x. x ≡ b → ⊥) xs
+Lacks b xs = AllByRecursion (λ x. x ≡ b → ⊥) xs
 
 parts_lacks : (b : ℕ) (xs : List ℕ) → Lacks b xs → parts b xs ≡ xs ∷ []
 parts_lacks b [] h = refl
@@ -34,7 +34,7 @@ cut_lacks b xs ys h = parts-append b xs ys ∙ ap (λ ps. ps ++ parts b ys) (par
 
 -- every byte of the list is at least `low`
 abbrev From : ℕ → List ℕ → Type 0
-From low xs = All (λ x. low ≤ x) xs
+From low xs = AllByRecursion (λ x. low ≤ x) xs
 
 lacks_from : (low b : ℕ) (xs : List ℕ) → b < low → From low xs → Lacks b xs
 lacks_from low b [] h f = tt
@@ -173,7 +173,7 @@ module _ (line : List ℕ) (r : Record) (s : Says line r) where
 abbrev whole : List (List ℕ × Record) → ℕ → ℕ → Reading
 whole ls lines place = record { records = map (λ l. l.1) ls; place = place + length (file_of ls); lines = lines + length ls; refusal = None }
 
-file_reads : (ls : List (List ℕ × Record)) (lines place free : ℕ) → All (λ l. Says l.0 l.1) ls → length ls ≤ free → reading lines place free (parts 10 (file_of ls)) ≡ whole ls lines place
+file_reads : (ls : List (List ℕ × Record)) (lines place free : ℕ) → AllByRecursion (λ l. Says l.0 l.1) ls → length ls ≤ free → reading lines place free (parts 10 (file_of ls)) ≡ whole ls lines place
 file_reads [] lines place free says room =
     let here : place ≡ place + 0 = omega arith in
     let none : lines ≡ lines + 0 = omega arith in

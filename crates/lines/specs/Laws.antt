@@ -4,7 +4,7 @@
 --     ReadsBack              a file that is lawful lines written out reads back as those records
 --     SameAnswer             files that agree up to the end of the first refused line get the same answer
 use Rattle.std.specs.Prelude.{◌≡◌, ℕ, ◌≤◌, true, List, [], ◌∷◌, ◌++◌, map, length, replicate, Some, None}
-use Rattle.std.specs.List.{flat_map, AllByRecursion as All}
+use Rattle.std.specs.List.{flat_map, AllByRecursion}
 use Rattle.lines.specs.declared.faults.LineFault.{LineFault}
 use Rattle.lines.specs.declared.record.Record.{Record}
 use Rattle.lines.specs.Kinds.{letter_of}
@@ -34,7 +34,7 @@ file_of ls = flat_map (λ l. l.0 ++ (10 ∷ [])) ls
 
 abbrev pub ReadsBack : Type 0
 ReadsBack =
-    (ls : List (List ℕ × Record)) (free : ℕ) → All (λ l. Says l.0 l.1) ls → length ls ≤ free
+    (ls : List (List ℕ × Record)) (free : ℕ) → AllByRecursion (λ l. Says l.0 l.1) ls → length ls ≤ free
     → read_whole (file_of ls) free ≡ record { records = map (λ l. l.1) ls; place = length (file_of ls); lines = length ls; refusal = None }
 
 -- the first refused line begins at or before the end of `front`, and a line ends there

@@ -1,6 +1,6 @@
 //! Reading a file line by line.
 ghost use Rattle.std.specs.Prelude.{◌≡◌, ◌+◌, ◌^◌, ◌<◌, ◌≤◌, [], ◌∷◌, length, IfSome, IfOk, MatchOption};
-ghost use Rattle.std.specs.List.{AllByRecursion as All};
+ghost use Rattle.std.specs.List.{AllByRecursion};
 ghost use Rattle.lines.specs.Layout.{Lawful, record_of};
 ghost use Rattle.lines.specs.Readers.{left, rest, Leads, FieldsOf, Stepped, ReadAll, reading_of};
 ghost use Rattle.lines.specs.Peeks.{Peeked};
@@ -101,7 +101,7 @@ impl<'a> LineReader<'a> {
     /// lines' rows are written and no others, and the reader stays at the refused line's start.
     pub fn read_rows(&mut self, rows: &mut [Record]) -> Result<usize, LineFault>
         ensures read { ReadAll self.old self.new rows.old rows.new result (reading_of self.old (length rows.old)) }
-        ensures lawful { All Lawful (reading_of self.old (length rows.old)).records }
+        ensures lawful { AllByRecursion Lawful (reading_of self.old (length rows.old)).records }
         ensures within { IfOk result (λ n. n ≤ length rows.old) }
     {
         let mut used = 0;

@@ -6,4 +6,4 @@ mod files;
 #[cfg(test)]
 mod layout;
 #[cfg(test)]
-mod texts;
+mod written;

@@ -4,7 +4,7 @@
 --     Whole r c xs        c, which may be a power too, stands for xs
 -- The lengths that compositions hold are those of their lists. Keys that no building named may be anything.
 use Rattle.std.specs.Prelude.{◌≡◌, ℕ, zero, suc, ◌≤◌, ◌⊎◌, List, [], ◌∷◌, ◌++◌, map, length, Some}
-use Rattle.std.specs.List.{flat_map, AllByRecursion as All}
+use Rattle.std.specs.List.{flat_map, AllByRecursion}
 use Rattle.dictionary.specs.Meaning.{key_of}
 use Rattle.scheme.specs.declared.composition.Composition.{Composition}
 use Rattle.scheme.specs.Compositions.{Entry, element, power, block}
@@ -36,7 +36,7 @@ module _ {E : Type 0} (es : List E) (cs : List Composition) where
     pub is : c ≡ block r (map entry_of parts)
     pub two : 2 ≤ length parts
     pub six : length parts ≤ 6
-    pub stand : All (λ p. Stands p.name p.list) parts
+    pub stand : AllByRecursion (λ p. Stands p.name p.list) parts
     pub list : xs ≡ flat_map (λ p. p.list) parts
 
   -- a power of an element or a block
