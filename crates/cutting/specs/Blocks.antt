@@ -4,13 +4,13 @@
 --     blocks xs          the blocks of the row xs
 --     flat bs            their names, one after the other
 --     Fit b              a block of two to six names
---     BlocksPart        the blocks part the row
---     BlocksFit         in a lawful row of two names or more each block has two to six names
---     BlocksHalf        so there are at most half as many blocks as names
---     BlocksBegin       a front of the blocks ends where a block begins, and both parts of the row are cut by the row's own cuts
+--     BlocksPart         the blocks part the row
+--     BlocksFit          in a lawful row of two names or more each block has two to six names
+--     BlocksHalf         so there are at most half as many blocks as names
+--     BlocksBegin        a front of the blocks ends where a block begins, and both parts of the row are cut by the row's own cuts
 --     Span n c s e       by places: the block that begins at s ends before e
---     BlockAt           in a lawful row of two names or more a block of two to six names begins at each place where one begins
---     BeginsNear        in a lawful row a block begins at one of any four places that follow each other, the first two places and the last one left out
+--     BlockAt            in a lawful row of two names or more a block of two to six names begins at each place where one begins
+--     BeginsNear         in a lawful row a block begins at one of any four places that follow each other, the first two places and the last one left out
 use Rattle.std.specs.Prelude.{◌≡◌, ℕ, suc, ◌+◌, ◌*◌, ◌<◌, ◌≤◌, Bool, true, false, ◌⊎◌, List, [], ◌∷◌, ◌++◌, length}
 use Rattle.std.specs.List.{flat_map, AllByRecursion}
 use Rattle.cutting.specs.Rule.{begins}

@@ -1,7 +1,7 @@
 -- What holds of the colours. Assumes nothing.
---     LowestIs          `lowest` in the rule's words: the two numbers differ in that bit, and in none below it
---     EqualNeighbours   where the rule leaves a new colour open, since both neighbours are equal, it is 64
---     ColoursApart      where neighbours differ in a row of names up to 16,777,216, they differ at every stage, the colours are at most 5 after the recolourings and at most 2 in the end
+--     LowestIs           `lowest` in the rule's words: the two numbers differ in that bit, and in none below it
+--     EqualNeighbours    where the rule leaves a new colour open, since both neighbours are equal, it is 64
+--     ColoursApart       where neighbours differ in a row of names up to 16,777,216, they differ at every stage, the colours are at most 5 after the recolourings and at most 2 in the end
 use Rattle.std.specs.Prelude.{◌≡◌, ℕ, ◌^◌, ◌<◌, ◌≢◌}
 use Rattle.cutting.specs.Rule.{bit, lowest, fresh, recolour, fourfold, reduce, colours}
 use Rattle.cutting.specs.Rows.{Apart, AtMost}

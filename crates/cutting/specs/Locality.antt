@@ -1,9 +1,9 @@
 -- Whether a block begins at a place depends only on the names from 8 places before it to 4 after it, and on a row's end only where that end is nearer. Assumes nothing.
 --     Alike n m c d i j  place i of the row c of n names and place j of the row d of m names look alike: each end is equally far or out of sight of both, and the names in sight are the same
 --     Local              at such places both rows begin a block, or neither does. The others are the forms of it that callers need:
---     LocalInside       where 13 names are the same, no end being nearer than those
---     LocalFront        for rows with a common front, at a place with 4 names of it after it
---     LocalEnd          for rows with a common end, at a place with 8 names of it before it
+--     LocalInside        where 13 names are the same, no end being nearer than those
+--     LocalFront         for rows with a common front, at a place with 4 names of it after it
+--     LocalEnd           for rows with a common end, at a place with 8 names of it before it
 use Rattle.std.specs.Prelude.{◌≡◌, ℕ, ◌+◌, ◌-◌, ◌<◌, ◌≤◌, min}
 use Rattle.cutting.specs.Rule.{begins}
 

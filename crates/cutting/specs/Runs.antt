@@ -6,7 +6,7 @@
 --     Proper rs          no run is empty, and neighbours have different names
 --     meet rs ss         the runs rs followed by ss: where the last name of rs is the first of ss, the two runs are one
 --     RunsSpell, RunsProper, RunsUnique      the runs of a row spell it, they are proper, and no other proper runs spell it
---     RunsAppend        the runs of a row followed by another
+--     RunsAppend         the runs of a row followed by another
 --     Leading xs x k     exactly the first k names of xs are x
 --     RunHanded row s r the run r is the first of the runs from place s on; the others go on after it
 use Rattle.std.specs.Prelude.{◌≡◌, ℕ, suc, ◌+◌, ◌<◌, ◌≤◌, cond, ◌≢◌, List, [], ◌∷◌, ◌++◌, length, drop, replicate, ◌==◌}

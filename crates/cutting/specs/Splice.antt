@@ -1,11 +1,11 @@
 -- A row that keeps a front F of one row, X = F ++ X', and an end E of another, Y = Y' ++ E, around a middle M. Assumes nothing.
 --     Kept F M E before after      the row F ++ (M ++ E) begins with the blocks `before` and ends with the blocks `after`; only the blocks `new` between them are its own
---     SpliceKeeps       the blocks of X that end more than 4 names before the end of F are kept, and so are the blocks of Y that begin at least 8 names after the beginning of E.
+--     SpliceKeeps        the blocks of X that end more than 4 names before the end of F are kept, and so are the blocks of Y that begin at least 8 names after the beginning of E.
 --                        None is kept where `before` or `after` is empty, so F, M, E, X' and Y' may be empty too
 --     Reach part kept    the blocks kept of a part reach near enough to the middle
 --     ReachFront, ReachEnd       in a lawful row there are blocks of a front, and of an end, that do
---     SpliceFew         then the new blocks have at most 24 names more than the middle, and in a lawful row of two names or more there are at most half as many blocks as that
---     SpliceBounded     so the blocks of a row that keeps a front of one lawful row and an end of another are those rows' blocks, but for those of at most 24 names more than the middle
+--     SpliceFew          then the new blocks have at most 24 names more than the middle, and in a lawful row of two names or more there are at most half as many blocks as that
+--     SpliceBounded      so the blocks of a row that keeps a front of one lawful row and an end of another are those rows' blocks, but for those of at most 24 names more than the middle
 use Rattle.std.specs.Prelude.{◌≡◌, ℕ, ◌+◌, ◌-◌, ◌*◌, ◌<◌, ◌≤◌, ◌⊎◌, List, [], ◌++◌, length, take, drop}
 use Rattle.cutting.specs.Rows.{cuts, Lawful}
 use Rattle.cutting.specs.Blocks.{parted, blocks, flat}

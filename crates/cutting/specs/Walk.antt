@@ -2,8 +2,8 @@
 --     flagged marks k    does a block begin at k, as the marks say? Any byte but 0 says so, and a byte that is not there does not
 --     onward row marks s the blocks from place s on, as the marks say
 --     Handed row marks s e names      the part of the row from s to e, its names `names`, is the first of the blocks from s on; the others go on from e
---     WalkBegins        with the marks of the rule, the blocks from place 0 on are the blocks of the row
---     WalkEnds          past the row there are none
+--     WalkBegins         with the marks of the rule, the blocks from place 0 on are the blocks of the row
+--     WalkEnds           past the row there are none
 use Rattle.std.specs.Prelude.{◌≡◌, ℕ, ◌<◌, ◌≤◌, Bool, true, false, not, ◌⊎◌, List, [], ◌∷◌, length, drop, ◌==◌}
 use Rattle.std.specs.List.{between}
 use Rattle.cutting.specs.Rows.{at, Marks}

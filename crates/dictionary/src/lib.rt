@@ -28,7 +28,7 @@ pub trait Dictionary<K: Key> {
     // What a make's `new` establishes and every call keeps: the make's own matter, such as a tree that is in order.
     ghost sound: { Self → Type 0 };
 
-    // The facts of every dictionary. No `law`s, since an `impl` with a lifetime has none yet.
+    // The facts of every dictionary, which clauses can cite.
     ghost different: { (d : Self) → sound d → Different (meaning d).keys };
 
     ghost within: { (d : Self) → length (meaning d).keys ≤ (meaning d).capacity };

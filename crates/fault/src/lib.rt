@@ -1,4 +1,4 @@
-//! What every refusal tells: a number, a layer and a place.
+//! What a refusal tells: a number, a layer and a place.
 #![tactic(auto)]
 
 /// Where a refusal is checked.
@@ -11,7 +11,7 @@ pub enum Layer {
     CompositionDictionary,
 }
 
-/// What every refusal tells. What the place counts depends on the number.
+/// What a refusal tells. What the place counts depends on the number.
 #[derive(Clone, Copy, Debug, PartialEq, Eq)]
 pub struct Fault {
     pub number: u8,

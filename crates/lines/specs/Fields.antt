@@ -1,9 +1,9 @@
 -- The fields of a line. Assumes nothing.
---     case_of f            the number of a field's case: 1 circuit, 2 kind, 3 digits
+--     case_of f           the number of a field's case: 1 circuit, 2 kind, 3 digits
 --     held f              the bytes of a field
 --     FourAt line p f     f are the four fields of the line, which begins at the place p of its file
 --     NotFour line        the line has not four fields
---     read_fields f        the record that the fields say, if each is lawful
+--     read_fields f       the record that the fields say, if each is lawful
 use Rattle.std.specs.Prelude.{◌≡◌, ℕ, ◌+◌, List, [], ◌∷◌, length, Some, None, Option}
 use Rattle.lines.specs.declared.fields.Field.{Field}
 use Rattle.lines.specs.declared.fields.Field.TheVariants.{Circuit, Kind, Digits}

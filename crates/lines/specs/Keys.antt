@@ -1,5 +1,5 @@
 -- The line record as a key. Assumes nothing.
---     in_order      records ordered by circuit (bytes from the left, a shorter circuit before its continuations), kind letter, limit and chain
+--     in_order     records ordered by circuit (bytes from the left, a shorter circuit before its continuations), kind letter, limit and chain
 --     spelled      the spelling in 18 bytes: circuit, letter, limit in four bytes with the highest first, chain
 use Rattle.std.specs.Prelude.{ℕ, List, [], ◌∷◌, ◌++◌}
 use Rattle.std.specs.declared.cmp.Ordering.{Ordering}

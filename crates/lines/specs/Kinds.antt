@@ -1,6 +1,6 @@
 -- The kinds of magnet and their letters. Assumes nothing.
---     letter_of k      the letter of the kind k, as a byte
---     kind_of b        the kind whose letter is the byte b
+--     letter_of k     the letter of the kind k, as a byte
+--     kind_of b       the kind whose letter is the byte b
 use Rattle.std.specs.Prelude.{ℕ, cond, Some, None, Option, ◌==◌}
 use Rattle.lines.specs.declared.kind.Kind.{Kind}
 use Rattle.lines.specs.declared.kind.Kind.TheVariants.{Dipole, Quadrupole, Sextupole, Steerer}

@@ -1,8 +1,8 @@
 -- Laws of line files. Assumes nothing.
 --     Says line r             the line is the record r written out, with or without leading zeros
---     file_of ls               the lines, each with its end
---     ReadsBack              a file that is lawful lines written out reads back as those records
---     SameAnswer             files that agree up to the end of the first refused line get the same answer
+--     file_of ls              the lines, each with its end
+--     ReadsBack               a file that is lawful lines written out reads back as those records
+--     SameAnswer              files that agree up to the end of the first refused line get the same answer
 use Rattle.std.specs.Prelude.{◌≡◌, ℕ, ◌≤◌, true, List, [], ◌∷◌, ◌++◌, map, length, replicate, Some, None}
 use Rattle.std.specs.List.{flat_map, AllByRecursion}
 use Rattle.lines.specs.declared.faults.LineFault.{LineFault}

@@ -2,7 +2,7 @@
 --     every p bs                  p holds of each byte of bs
 --     circuit_of, kind_of_one, limit_of, chain_of      what a field says, if it is lawful
 --     filled bs                   twelve bytes: those of bs, and zero bytes behind them
---     record_of line               the record that the line says, if it is one in the layout
+--     record_of line              the record that the line says, if it is one in the layout
 --     Lawful r                    r is inside the limits of the layout
 use Rattle.std.specs.Prelude.{◌≡◌, ℕ, ◌+◌, ◌-◌, ◌*◌, ◌≤◌, Bool, true, false, cond, ◌&&◌, ◌||◌, List, [], ◌∷◌, ◌++◌, length, take, replicate, Some, None, Option, ◌==◌, nat_le}
 use Rattle.std.proofs.Common.{arith, length-take, length-append}

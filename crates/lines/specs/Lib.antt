@@ -8,5 +8,5 @@ pub mod Parts
 pub mod Peeks
 pub mod Readers
 pub mod Reading
-pub mod Spellings
 pub mod Records
+pub mod Spellings

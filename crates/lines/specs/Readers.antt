@@ -1,7 +1,7 @@
 -- What the calls of the line reader do. Assumes nothing.
 --     rest rd, left rd      what rd has not read, and its parts
---     next_of rd             what its next line says
---     reading_of rd free     what reading all that is left does, with `free` rows
+--     next_of rd            what its next line says
+--     reading_of rd free    what reading all that is left does, with `free` rows
 --     Stepped, ReadAll      what `next_line` and `read_rows` answer and leave
 use Rattle.std.specs.Prelude.{◌≡◌, ℕ, ◌+◌, ◌≤◌, List, ◌∷◌, ◌++◌, length, drop, Some, None, Ok, Err, Option, Result}
 use Rattle.lines.specs.declared.faults.LineFault.{LineFault}

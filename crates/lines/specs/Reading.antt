@@ -1,7 +1,7 @@
 -- Reading a file of lines. Assumes nothing.
 -- A file is cut at each byte 10. The last part has to be empty, since each line is ended by such a byte; the others are its lines.
 --     next n ps             what the next line, number n, says where the parts of what is left are ps
---     read_whole file free   what reading a whole file does, with `free` rows
+--     read_whole file free  what reading a whole file does, with `free` rows
 --     reading n p free ps   what reading all that is left does, after n lines and from the place p on, with `free` rows
 use Rattle.std.specs.Prelude.{ℕ, zero, suc, ◌+◌, List, [], ◌∷◌, length, Some, None, Ok, Err, Option, Result}
 use Rattle.lines.specs.declared.faults.LineFault.{LineFault}

@@ -1,6 +1,6 @@
 -- Two delivered files matched. Assumes nothing.
---     file_list f free       the list of a file with `free` rows, or why it is refused; None is a file that cannot be read
---     file_rows f free       the records that are then written to the rows, from the first on
+--     file_list f free      the list of a file with `free` rows, or why it is refused; None is a file that cannot be read
+--     file_rows f free      the records that are then written to the rows, from the first on
 --     Delivered             what reading a delivered file answers and leaves
 --     Compared xs ys o      o is what comparing two lists gives
 --     Matched               what matching two files answers and leaves

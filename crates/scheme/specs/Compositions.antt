@@ -2,7 +2,7 @@
 --     element n               the composition of an element with the number n
 --     power r n len k         the power of the name n, of round r and length len, taken k times
 --     block r row             the block of the names of a row of round r, each with its length
---     in_order                 compositions ordered by kind, round, length, then p1 to p6
+--     in_order                compositions ordered by kind, round, length, then p1 to p6
 --     spelled                 the spelling in 30 bytes: kind, round, length in four, each p in four, highest byte first
 use Rattle.std.specs.Prelude.{ℕ, ◌+◌, ◌*◌, List, [], ◌∷◌, map, slice_index}
 use Rattle.std.specs.declared.cmp.Ordering.{Ordering}

@@ -1,7 +1,7 @@
 -- Worked lists, of bytes written as letters; the dictionaries are empty at first. Assumes nothing.
 --     built n m xs       building xs over empty dictionaries of n and m rows
 --     next d xs          building xs after the building d
---     WorkedLists       what the rule says of the lists AAAAA; AB, ABAB, A and BAB; ABABAB; ABCDEFGH and ACEGBDFH; AAB and AA; AB
+--     WorkedLists        what the rule says of the lists AAAAA; AB, ABAB, A and BAB; ABABAB; ABCDEFGH and ACEGBDFH; AAB and AA; AB
 use Rattle.std.specs.Prelude.{◌≡◌, ℕ, List, [], ◌∷◌, length, drop, Ok, Err, codes}
 use Rattle.dictionary.specs.Meaning.{new, full}
 use Rattle.scheme.specs.declared.composition.Composition.{Composition}

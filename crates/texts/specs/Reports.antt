@@ -1,8 +1,8 @@
 -- The report of the matching program. Assumes nothing.
---     text_of l           the bytes of a report's line
---     file_letter f       M or I
---     line_told n p       the line that a refusal of number n at the place p tells
---     report_of o         the line that reports the outcome o: fields parted by tabs, byte 10 last
+--     text_of l          the bytes of a report's line
+--     file_letter f      M or I
+--     line_told n p      the line that a refusal of number n at the place p tells
+--     report_of o        the line that reports the outcome o: fields parted by tabs, byte 10 last
 use Rattle.std.specs.Prelude.{ℕ, cond, ◌||◌, List, [], ◌∷◌, ◌++◌, take, codes, ◌==◌}
 use Rattle.texts.specs.declared.report.DeliveredFile.{DeliveredFile}
 use Rattle.texts.specs.declared.report.DeliveredFile.TheVariants.{Magnets, Interlock}

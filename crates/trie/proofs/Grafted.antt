@@ -60,7 +60,7 @@ module _ {K : Type 0} (spelling : K → List ℕ) (rows : List (TrieRow K)) (n r
       (byte-kept : (m : ℕ) → m < n → column (λ v. v.place.byte) rows' m ≡ column (λ v. v.place.byte) rows m) (byte-new : column (λ v. v.place.byte) rows' n ≡ w.place.byte)
       (child_is : (b : Bool) (m : ℕ) → m < n → (child rows' b m ≡ child rows b m) ⊎ ((child rows b m ≡ L) × (child rows' b m ≡ 16777216 + n) × (crits rows m < d) × (bit (spelling k) (crits rows m) ≡ b)))
       (child-new : (b : Bool) → child rows' b n ≡ side b w)
-      (is_held_lem : keys rows' (n + 1) ≡ keys rows n ++ k ∷ []) (rest : drop (n + 1) rows' ≡ drop (n + 1) rows)
+      (is_held : keys rows' (n + 1) ≡ keys rows n ++ k ∷ []) (rest : drop (n + 1) rows' ≡ drop (n + 1) rows)
       (turned : Turned (child rows) (crits rows) n root (child rows') root' (16777216 + n) slot) (way : Way (child rows) (crits rows) n root slot)
       (root_is : (root' ≡ root) ⊎ ((root ≡ L) × (root' ≡ 16777216 + n))) where
     grown : Grown n d L j (crits rows) (crits rows') (child rows) (child rows') bits bits'
@@ -122,8 +122,8 @@ module _ {K : Type 0} (spelling : K → List ℕ) (rows : List (TrieRow K)) (n r
       places = subst (Places rows') (sym (add-one n)) new_places;
       linked = subst (Linked rows') (sym (add-one n)) (all_goods false, all_goods true);
       rooted = subst (λ q. Good (crits rows') q 0 root') (sym (add-one n)) new_root;
-      held = is_held_lem;
-      sorted = λ s. subst (λ q. Sorted (child rows') (crits rows') (bits_of spelling (keys rows' (n + 1))) q root') (sym (add-one n)) (subst (λ ks. Sorted (child rows') (crits rows') (bits_of spelling ks) (suc n) root') (sym is_held_lem) (new_sorted s));
+      held = is_held;
+      sorted = λ s. subst (λ q. Sorted (child rows') (crits rows') (bits_of spelling (keys rows' (n + 1))) q root') (sym (add-one n)) (subst (λ ks. Sorted (child rows') (crits rows') (bits_of spelling ks) (suc n) root') (sym is_held) (new_sorted s));
       rest = rest;
     }
 
