@@ -49,6 +49,9 @@ kind_back Steerer = refl
 pub same_kind : (k l : Kind) → letter_of k ≡ letter_of l → k ≡ l
 same_kind k l e = let p = sym (kind_back k) ∙ ap kind_of e ∙ kind_back l in cc p
 
+pub letters_decide : (k l : Kind) → Decides (letter_of k == letter_of l) (k ≡ l)
+letters_decide k l = Decides-like (letter_of k == letter_of l) (same_kind k l) (ap letter_of) (unsigned_Decides (letter_of k) (letter_of l))
+
 abbrev pub same_fields : Record → Record → Bool
 same_fields x y = pointwise nat_eq x.circuit y.circuit && (letter_of x.kind == letter_of y.kind && (x.limit == y.limit && x.chain == y.chain))
 
@@ -56,7 +59,7 @@ pub same_fields_decides : (x y : Record) → Decides (same_fields x y) (x ≡ y)
 same_fields_decides x y =
     same_decides x y _ _ _ _
     (pointwise_decides unsigned_Decides x.circuit y.circuit)
-    (Decides-like (letter_of x.kind == letter_of y.kind) (same_kind x.kind y.kind) (ap letter_of) (unsigned_Decides (letter_of x.kind) (letter_of y.kind)))
+    (letters_decide x.kind y.kind)
     (unsigned_Decides x.limit y.limit)
     (unsigned_Decides x.chain y.chain)
 
