@@ -6,11 +6,5 @@ ghost use Rattle.dictionary.specs.Spelling.{four};
 pub fn byte_of(n: u32, i: usize) -> u8
     ensures { result ≡ slice_index (four n) i }
 {
-    match i {
-        0 => (n / 16_777_216) as u8,
-        1 => (n / 65_536 % 256) as u8,
-        2 => (n / 256 % 256) as u8,
-        3 => (n % 256) as u8,
-        _ => 0,
-    }
+    n.to_be_bytes().get(i).copied().unwrap_or(0)
 }

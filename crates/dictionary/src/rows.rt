@@ -1,6 +1,8 @@
-// How many of the rows that are handed in a dictionary uses.
-ghost use Rattle.std.specs.Prelude.{◌≡◌};
-ghost use Rattle.dictionary.specs.Meaning.{most};
+// The rows that a make is lent: how many of them it uses, and the key that each holds.
+ghost use Rattle.std.specs.Prelude.{◌≡◌, map};
+ghost use Rattle.dictionary.specs.Meaning.{most, key_of, or_absent};
+
+use crate::refusals::Absent;
 
 const LIMIT: usize = 16_777_216;
 
@@ -8,5 +10,22 @@ const LIMIT: usize = 16_777_216;
 pub fn capacity_over(rows: usize) -> usize
     ensures { result ≡ most rows }
 {
-    if rows < LIMIT { rows } else { LIMIT }
+    rows.min(LIMIT)
+}
+
+/// A row that holds a key, beside what a make keeps there of its own.
+pub trait Row<K> {
+    ghost key: { Self → K };
+
+    fn key(&self) -> K
+        ensures { result ≡ key self.now };
+}
+
+/// Key n, where these rows hold the keys.
+pub fn key_in<K, R: Row<K>>(held: &[R], n: u32) -> Result<K, Absent>
+    ensures { result ≡ or_absent (key_of (map R.Row.key held.now) n) }
+{
+    let i = (n as usize).checked_sub(1).ok_or(Absent)?;
+    let row = held.get(i).ok_or(Absent)?;
+    Ok(row.key())
 }
