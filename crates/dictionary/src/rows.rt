@@ -1,4 +1,4 @@
-// The rows that a make is lent: how many of them it uses, and the key that each holds.
+// The rows that a make is lent: how many of them it uses, the key that each holds, and the links between them.
 ghost use Rattle.std.specs.Prelude.{◌≡◌, map};
 ghost use Rattle.dictionary.specs.Meaning.{most, key_of, or_absent};
 
@@ -11,6 +11,14 @@ pub fn capacity_over(rows: usize) -> usize
     ensures { result ≡ most rows }
 {
     rows.min(LIMIT)
+}
+
+/// A link of a tree over rows: the one to the root, or one on a side of a row. Rows count from 0 here.
+#[derive(Clone, Copy, Debug, PartialEq, Eq)]
+pub enum Slot {
+    Root,
+    Left(u32),
+    Right(u32),
 }
 
 /// A row that holds a key, beside what a make keeps there of its own.
