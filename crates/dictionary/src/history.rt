@@ -12,9 +12,9 @@ pub fn carry_out<K: Key, D: Dictionary<K>>(dictionary: &mut D, call: &Call<K>) -
     ensures { Does D.Dictionary.meaning D.Dictionary.sound dictionary.old dictionary.new result (calling K.Key.order call.now) }
 {
     match call {
-        Call::Size => Answer::Size((*dictionary).size()),
-        Call::Capacity => Answer::Capacity((*dictionary).capacity()),
-        Call::Asks => Answer::Asks((*dictionary).asks()),
+        Call::Size => Answer::Size(dictionary.size()),
+        Call::Capacity => Answer::Capacity(dictionary.capacity()),
+        Call::Asks => Answer::Asks(dictionary.asks()),
         Call::Find(k) => Answer::Find(dictionary.find(k)),
         Call::Name(k) => Answer::Name(dictionary.name(k)),
         Call::Key(n) => Answer::Key(dictionary.key(*n)),
@@ -30,10 +30,11 @@ pub fn replay<K: Key, D: Dictionary<K>>(
     ensures runs { Runs K.Key.order D.Dictionary.meaning D.Dictionary.sound dictionary.old dictionary.new calls.now answers.old answers.new }
     ensures keeps { D.Dictionary.sound dictionary.old → Keeps (D.Dictionary.meaning dictionary.old) (D.Dictionary.meaning dictionary.new) }
 {
-    let mut i = 0;
-    while i < calls.len() && i < answers.len() {
-        answers[i] = carry_out(dictionary, &calls[i]);
-        i += 1;
+    for (i, answer) in answers.iter_mut().enumerate() {
+        let Some(call) = calls.get(i) else {
+            break;
+        };
+        *answer = carry_out(dictionary, call);
     }
 }
 

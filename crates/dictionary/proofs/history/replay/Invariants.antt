@@ -1,11 +1,7 @@
-use Rattle.std.proofs.Common.{◌-◌, ◌≤◌, length, take}
+use Rattle.std.proofs.Common.{length, take}
 use Rattle.dictionary.proofs.Runs.{Going}
 use Rattle.dictionary.proofs.history.replay.Given as goal
 
 abbrev pub invariant-loop-i : goal.invariant-loop-i
 invariant-loop-i g l =
-    (l.i ≤ length l.answers) ×
-    (g.D.Dictionary.sound l.initial.dictionary → Going g.K.Key.order (g.D.Dictionary.meaning l.initial.dictionary) (take (length l.initial.answers) l.calls) l.initial.answers (g.D.Dictionary.meaning l.dictionary) l.answers l.i (g.D.Dictionary.sound l.dictionary))
-
-abbrev pub decreases-loop-i : goal.decreases-loop-i
-decreases-loop-i g l = length l.calls - l.i
+    g.D.Dictionary.sound l.initial.dictionary → Going g.K.Key.order (g.D.Dictionary.meaning l.initial.dictionary) (take (length l.initial.answers) l.calls) l.initial.answers (g.D.Dictionary.meaning l.dictionary) l.answers l.i (g.D.Dictionary.sound l.dictionary)
