@@ -28,15 +28,6 @@ pub trait Dictionary<K: Key> {
     // What a make's `new` establishes and every call keeps: the make's own matter, such as a tree that is in order.
     ghost sound: { Self → Type 0 };
 
-    // The facts of every dictionary, which clauses can cite.
-    ghost different: { (d : Self) → sound d → Different (meaning d).keys };
-
-    ghost within: { (d : Self) → length (meaning d).keys ≤ (meaning d).capacity };
-
-    ghost small: { (d : Self) → (meaning d).capacity ≤ 16777216 };
-
-    ghost counted: { (d : Self) → (meaning d).asks < 2 ^ 64 };
-
     /// The number of keys. It is no ask, and neither are the next two.
     fn size(&self) -> u32
         ensures { result ≡ length (meaning self.now).keys };
@@ -58,4 +49,13 @@ pub trait Dictionary<K: Key> {
     /// Key n, or Absent.
     fn key(&mut self, n: u32) -> Result<K, Absent>
         ensures { Does meaning sound self.old self.new result (keying n) };
+
+    // What is true of every dictionary.
+    ghost different: { (d : Self) → sound d → Different (meaning d).keys };
+
+    ghost within: { (d : Self) → length (meaning d).keys ≤ (meaning d).capacity };
+
+    ghost small: { (d : Self) → (meaning d).capacity ≤ 16777216 };
+
+    ghost counted: { (d : Self) → (meaning d).asks < 2 ^ 64 };
 }

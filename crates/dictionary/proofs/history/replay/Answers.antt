@@ -1,4 +1,4 @@
-use Rattle.std.proofs.Common.{◌+◌, ◌≤◌, ◌<◌, ◌∷◌, length, take, drop, sym, ap, ◌∙◌, arith}
+use Rattle.std.proofs.Common.{◌≡◌, ◌+◌, ◌≤◌, ◌<◌, ◌∷◌, length, get_or, take, drop, sym, ap, ◌∙◌, arith}
 use Rattle.std.proofs.lemmas.List.{length-take, drop_more, get_or-take, set-get_or}
 use Rattle.dictionary.proofs.Runs.{going_on, going_start, ran, ran_keeps}
 use Rattle.dictionary.proofs.history.replay.Goals as goal
@@ -13,7 +13,8 @@ loop-i-preserved g c =
     let i = c.loop-i.i in
     let inside : c.loop-i.i < length c.args.answers.now = omega arith in
     let there : c.loop-i.i < length (take n calls) = omega (arith, length-take n calls, c.in-Some.ensures.lookup.3.0) in
-    let next = drop_more (take n calls) i c.in-Some.call.now there ∙ ap (λ y. y ∷ drop (i + 1) (take n calls)) (get_or-take n calls i c.in-Some.call.now inside ∙ sym c.in-Some.ensures.lookup.1) in
+    let same : get_or c.args.calls.now c.loop-i.i c.in-Some.call.now ≡ c.in-Some.call.now = sym c.in-Some.ensures.lookup.1 in
+    let next = drop_more (take n calls) i c.in-Some.call.now there ∙ ap (λ y. y ∷ drop (i + 1) (take n calls)) (get_or-take n calls i c.in-Some.call.now inside ∙ same) in
     λ s. going_on g.K.Key.order _ (take n calls) c.args.answers.now _ _ i (c.loop-i.invariant s) _ c.carry_out.result (g.D.Dictionary.meaning c.carry_out.new.dictionary) {sound' = g.D.Dictionary.sound c.carry_out.new.dictionary} next (omega (arith, c.loop-i.auto.answers)) (c.carry_out.ensures (c.loop-i.invariant s).stays)
 
 pub returns-after-loop-i : goal.returns-after-loop-i
