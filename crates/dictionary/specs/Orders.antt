@@ -2,7 +2,7 @@
 use Rattle.std.specs.Prelude.{◌≡◌, ℕ, ◌<◌, List, [], ◌∷◌, refl}
 use Rattle.std.specs.declared.cmp.Ordering.TheVariants.{Less, Equal, Greater}
 use Rattle.std.specs.declared.cmp.Ordering.{Ordering}
-use Rattle.std.proofs.Common.{ap, subst, sym, ◌∙◌, true≢false}
+use Rattle.std.proofs.Common.{ap, subst, true≢false}
 use Rattle.std.specs.Cmp.{IsTotalOrder, ranks, tied_itself}
 use Rattle.std.specs.Ordering.{MatchOrdering, is_lt, is_gt, ordering_then, nat_cmp}
 use Rattle.std.specs.Cmp.Lexicographic.{slice_cmp}
@@ -15,9 +15,13 @@ same_number x y e = subst (λ o. MatchOrdering o (x < y) (x ≡ y) (y < x)) e (r
 pub itself : {K : Type 0} (order : K → K → Ordering) → IsTotalOrder order → (x : K) → order x x ≡ Equal
 itself order t x = tied_itself t x
 
--- so does the order of a key type, which is what its comparison answers
-pub key_itself : {K : Type 0} (order : K → K → Ordering) {compared : K → K → Ordering} → ((x y : K) → compared x y ≡ order x y) → IsTotalOrder compared → (x : K) → order x x ≡ Equal
-key_itself order ordered t x = sym (ordered x x) ∙ itself _ t x
+-- the order of a key type, which is what its comparison answers, is one of std's total orders, and says so too
+module _ {K : Type 0} (order : K → K → Ordering) {compared : K → K → Ordering} (ordered : (x y : K) → compared x y ≡ order x y) (t : IsTotalOrder compared) where
+  pub key_total : IsTotalOrder order
+  key_total = subst IsTotalOrder (λ i x y. ordered x y i) t
+
+  pub key_itself : (x : K) → order x x ≡ Equal
+  key_itself x = itself order key_total x
 
 -- an order of the parts that a value has
 pub by_parts : {K P : Type 0} (parts : K → P) {R : P → P → Ordering} (t : IsTotalOrder R) → IsTotalOrder (λ (x y : K). R (parts x) (parts y))

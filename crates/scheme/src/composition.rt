@@ -1,7 +1,7 @@
 //! Compositions: what a name stands for.
 
 /// A kind, a round, a length and six numbers; any contents go. Numbers that a kind does not mention are 0.
-#[derive(Clone, Copy, Debug, PartialEq, Eq)]
+#[derive(Clone, Copy, Debug, PartialEq, Eq, PartialOrd, Ord)]
 pub struct Composition {
     /// 1 an element, 2 a power, 3 a block.
     pub kind: u8,

@@ -35,12 +35,12 @@ impl From<(u8, Full)> for BuildFault {
     }
 }
 
-impl BuildFault {
-    /// Number, layer and place.
-    pub fn told(self) -> Fault
-        ensures { result ≡ build_fault self }
-    {
-        match self {
+/// Number, layer and place.
+impl From<BuildFault> for Fault {
+    ghost from_gives = { λ e r. r ≡ build_fault e };
+
+    fn from(e: BuildFault) -> Fault {
+        match e {
             BuildFault::Elements { position, .. } => Fault {
                 number: 9,
                 layer: Layer::ElementDictionary,
@@ -49,7 +49,7 @@ impl BuildFault {
             BuildFault::Compositions { round, .. } => Fault {
                 number: 10,
                 layer: Layer::CompositionDictionary,
-                place: round as usize,
+                place: usize::from(round),
             },
         }
     }

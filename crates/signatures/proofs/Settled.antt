@@ -1,14 +1,14 @@
 -- Growing, settling and quiet computations. Assumes nothing.
+use Rattle.std.proofs.lemmas.Cmp.{tied_itself}
 use Rattle.std.proofs.Common.{◌≡◌, ℕ, ◌+◌, length, Ok, Err, Result, Ordering, Equal, sym, refl, ap, ◌∙◌, subst, arith}
-use Rattle.std.specs.Cmp.{nat_cmp_total, then_total, on_total}
-use Rattle.dictionary.specs.Orders.{itself, by_parts}
+use Rattle.std.specs.Cmp.{nat_cmp_total}
 use Rattle.dictionary.specs.Does.{out}
 use Rattle.dictionary.specs.Meaning.{Meaning, asked, naming}
 use Rattle.dictionary.specs.declared.refusals.Full.{Full}
 use Rattle.scheme.specs.declared.composition.Composition.{Composition}
 use Rattle.scheme.specs.declared.faults.BuildFault.{BuildFault}
 use Rattle.scheme.specs.declared.faults.BuildFault.TheVariants.{Elements, Compositions}
-use Rattle.scheme.specs.Compositions.{in_parts, in_order}
+use Rattle.scheme.specs.Compositions.{in_order}
 use Rattle.scheme.specs.Building.{Both, both, Doing, and_then, follow, name_element, name_composition}
 use Rattle.scheme.specs.Standing.{Grown, Kept}
 use Rattle.signatures.specs.Laws.{Onward, Again, Same, Growing, Settling, Quiet}
@@ -83,7 +83,7 @@ module _ {E : Type 0} where
 
 -- a composition is equal to itself
 pub composition_itself : (c : Composition) → in_order c c ≡ Equal
-composition_itself = itself in_order (by_parts in_parts (then_total (on_total (λ p. p.0) nat_cmp_total) (on_total (λ p. p.1) (then_total (on_total (λ p. p.0) nat_cmp_total) (on_total (λ p. p.1) (then_total (on_total (λ p. p.0) nat_cmp_total) (on_total (λ p. p.1) (then_total (on_total (λ p. p.0) nat_cmp_total) (on_total (λ p. p.1) (then_total (on_total (λ p. p.0) nat_cmp_total) (on_total (λ p. p.1) (then_total (on_total (λ p. p.0) nat_cmp_total) (on_total (λ p. p.1) (then_total (on_total (λ p. p.0) nat_cmp_total) (on_total (λ p. p.1) (then_total (on_total (λ p. p.0) nat_cmp_total) (on_total (λ p. p.1) nat_cmp_total)))))))))))))))))
+composition_itself c = simp (tied_itself nat_cmp_total)
 
 module _ {E : Type 0} where
   pub element_settles : (order : E → E → Ordering) → ((x : E) → order x x ≡ Equal) → (position : ℕ) (x : E) → Settling (name_element order position x)
