@@ -24,7 +24,7 @@ pub(crate) fn seek<K: Key>(rows: &[TreeRow<K>], used: usize, k: &K) -> Spot
     while at != 0 {
         let i = at - 1;
         let row = &rows[i as usize];
-        match k.compare(&row.key) {
+        match k.cmp(&row.key) {
             Ordering::Less => {
                 spot = Spot::Left(i);
                 at = row.left;
