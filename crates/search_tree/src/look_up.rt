@@ -1,11 +1,9 @@
-// The walk for a key, and the key of a number.
+// The walk for a key.
 ghost use Rattle.std.specs.Prelude.{◌≡◌, ◌≤◌, length};
-ghost use Rattle.dictionary.specs.Meaning.{key_of, or_absent};
 ghost use Rattle.search_tree.specs.Tree.{Linked, ends, found, keys};
 
 use crate::row::{Spot, TreeRow};
 use dictionary::key::Key;
-use dictionary::refusals::Absent;
 use std::cmp::Ordering;
 
 /// Where the walk for the key ends.
@@ -39,17 +37,4 @@ pub(crate) fn seek<K: Key>(rows: &[TreeRow<K>], used: usize, k: &K) -> Spot
         }
     }
     spot
-}
-
-/// Key n.
-pub(crate) fn fetch<K: Key>(rows: &[TreeRow<K>], used: usize, n: u32) -> Result<K, Absent>
-    requires { used ≤ length rows.now }
-    ensures { result ≡ or_absent (key_of (keys rows.now used) n) }
-{
-    let n = n as usize;
-    if n == 0 || n > used {
-        Err(Absent)
-    } else {
-        Ok(rows[n - 1].key)
-    }
 }

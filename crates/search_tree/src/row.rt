@@ -2,6 +2,7 @@
 ghost use Rattle.std.specs.Prelude.{◌≡◌};
 
 use dictionary::key::Key;
+use dictionary::rows::Row;
 
 /// A key, and the links to the rows on its left and right: 0 for none, else the number of the row's key.
 #[derive(Clone, Copy)]
@@ -21,6 +22,14 @@ impl<K: Key> TreeRow<K> {
             left: 0,
             right: 0,
         }
+    }
+}
+
+impl<K: Key> Row<K> for TreeRow<K> {
+    ghost key = { λ w. w.key };
+
+    fn key(&self) -> K {
+        self.key
     }
 }
 

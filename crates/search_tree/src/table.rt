@@ -7,12 +7,12 @@ ghost use Rattle.search_tree.specs.Tree.{Linked, ends, found, keys};
 ghost use Rattle.search_tree.specs.TreeMeaning.{meaning_of, Sound};
 
 use crate::hang::hang;
-use crate::look_up::{fetch, seek};
+use crate::look_up::seek;
 use crate::row::{Spot, TreeRow};
 use dictionary::asks::one_more;
 use dictionary::key::Key;
 use dictionary::refusals::{Absent, Full};
-use dictionary::rows::capacity_over;
+use dictionary::rows::{capacity_over, key_in};
 
 // It has no ghost field: what a `&mut` beside a ghost field refers to cannot be lent on as a slice.
 #[derive(Drop)]
@@ -38,7 +38,7 @@ impl<'a, K: Key> TreeTable<'a, K> {
         requires long { self.now.used ≤ length self.now.rows.now }
         ensures { result ≡ or_absent (key_of (keys self.now.rows.now self.now.used) n) }
     {
-        fetch(self.rows, self.used, n)
+        key_in(&self.rows[..self.used], n)
     }
 
     pub(crate) fn find(&mut self, k: &K) -> Option<u32>
