@@ -1,5 +1,6 @@
 -- The walk through a search tree, step by step. Assumes nothing.
-use Rattle.std.proofs.Common.{◌≡◌, ℕ, zero, suc, ◌+◌, ◌-◌, ◌*◌, ◌<◌, ◌≤◌, min, List, length, get_or, Ordering, Less, Equal, Greater, sym, refl, ap, ◌∙◌, arith}
+use Rattle.std.proofs.Common.{◌≡◌, ℕ, zero, suc, ◌+◌, ◌-◌, ◌*◌, ◌<◌, ◌≤◌, min, List, length, get_or, take, Ordering, Less, Equal, Greater, sym, refl, ap, ◌∙◌, arith}
+use Rattle.std.proofs.lemmas.List.{get_or-take}
 use Rattle.std.proofs.lemmas.Bool.Decides.{nat_tests}
 use Rattle.search_tree.specs.Tree.{root, pick, walk, found, turns, keys, lefts, rights, Linked, ends}
 use Rattle.search_tree.specs.declared.row.TreeRow.{TreeRow}
@@ -38,7 +39,7 @@ module _ (turn : ℕ → Ordering) (left right : ℕ → ℕ) (n : ℕ) where
         | suc m ↦ λ p w. sym (ap (λ o. pick o (walk turn left right m (Left i) (left i)) (Here i) (walk turn left right m (Right i) (right i))) same) ∙ ap (λ k. walk turn left right (suc m) spot k) (sym e) ∙ w
       ] (r.enough (omega arith)) r.ends
 
--- the same at rows: w is the row that was read
+-- the same at rows: w is the row that was read, among those that hold keys
 module _ {K : Type 0} (order : K → K → Ordering) (rows : List (TreeRow K)) (n : ℕ) (k : K) (long : n ≤ length rows) (links : Linked n rows) where
   abbrev pub Resting : Spot → ℕ → Type 0
   Resting spot at = Rest (turns order (keys rows n) k) (lefts rows) (rights rows) n spot at
@@ -50,7 +51,10 @@ module _ {K : Type 0} (order : K → K → Ordering) (rows : List (TreeRow K)) (
   abbrev pub to_go : ℕ → ℕ
   to_go at = min (n + 1 - at) (at * 16777217)
 
-  module _ (spot : Spot) (at : ℕ) (w : TreeRow K) (some : 0 < at) (is : w ≡ get_or rows (at - 1) w) (r : Resting spot at) where
+  module _ (front : List (TreeRow K)) (held : front ≡ take n rows) (spot : Spot) (at : ℕ) (w : TreeRow K) (some : 0 < at) (read : w ≡ get_or front (at - 1) w) (r : Resting spot at) where
+    is : w ≡ get_or rows (at - 1) w
+    is = read ∙ ap (λ l. get_or l (at - 1) w) held ∙ get_or-take n rows (at - 1) w (omega (arith, r.within))
+
     inside : at - 1 < length rows
     inside = omega (arith, r.within)
 

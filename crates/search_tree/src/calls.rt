@@ -6,79 +6,95 @@ ghost use Rattle.dictionary.specs.Meaning.{new, finding, naming, keying};
 ghost use Rattle.dictionary.specs.Rows.{beyond};
 ghost use Rattle.search_tree.specs.TreeMeaning.{meaning_of, Sound, one_place};
 
-use crate::row::TreeRow;
-use crate::table::TreeTable;
+use crate::hang::hang;
+use crate::row::{Spot, TreeRow};
 use crate::tree::SearchTree;
 use dictionary::Dictionary;
+use dictionary::asks::one_more;
 use dictionary::key::Key;
 use dictionary::refusals::{Absent, Full};
-use dictionary::rows::capacity_over;
+use dictionary::rows::{capacity_over, key_in};
 
 impl<'a, K: Key> SearchTree<'a, K> {
     /// A tree with no keys and no asks. Its capacity is the number of rows, up to 16,777,216; what they hold does not
     /// matter.
     pub fn new(rows: &'a mut [TreeRow<K>]) -> SearchTree<'a, K>
-        ensures meaning { meaning_of result.table ≡ new (length rows.old) }
-        ensures sound { Sound K.Key.order result.table }
-        ensures rows { result.table.rows.now ≡ rows.old }
-        ensures lent { result.table.rows.ghost_name ≡ rows.entry.ghost_name }
+        ensures meaning { meaning_of result ≡ new (length rows.old) }
+        ensures sound { Sound K.Key.order result }
+        ensures rows { result.rows.now ≡ rows.old }
+        ensures lent { result.rows.ghost_name ≡ rows.entry.ghost_name }
     {
         SearchTree {
-            table: TreeTable {
-                rows,
-                used: 0,
-                asks: 0,
-            },
+            rows,
+            used: 0,
+            asks: 0,
         }
     }
 }
 
 impl<'a, K: Key> Dictionary<K> for SearchTree<'a, K> {
-    ghost meaning = { λ t. meaning_of t.table };
+    ghost meaning = { meaning_of };
 
-    ghost sound = { λ t. Sound K.Key.order t.table };
+    ghost sound = { Sound K.Key.order };
 
-    ghost different = { λ t s. different_from (meaning_of t.table).keys (one_place K.Key.order t.table s) };
+    ghost different = { λ t s. different_from (meaning_of t).keys (one_place K.Key.order t s) };
 
-    ghost within = { λ t. held_within (λ w. w.key) t.table.rows.now t.table.used t.long };
+    ghost within = { λ t. held_within (λ w. w.key) t.rows.now t.used t.long };
 
-    ghost small = { λ t. most_small (length t.table.rows.now) };
+    ghost small = { λ t. most_small (length t.rows.now) };
 
     ghost counted = { λ t. t.counted };
 
     fn size(&self) -> u32 {
-        self.table.used as u32
+        self.used as u32
     }
 
     fn capacity(&self) -> u32 {
-        capacity_over(self.table.rows.len()) as u32
+        capacity_over(self.rows.len()) as u32
     }
 
     fn asks(&self) -> u64 {
-        self.table.asks
+        self.asks
     }
 
     fn find(&mut self, k: &K) -> Option<u32>
-        ensures does { Does (λ t. meaning_of t.table) (λ t. Sound K.Key.order t.table) self.old self.new result (finding K.Key.order k.now) }
-        ensures rows { self.new.table.rows.now ≡ self.old.table.rows.now }
-        ensures lent { self.new.table.rows.ghost_name ≡ self.old.table.rows.ghost_name }
+        ensures does { Does meaning_of (Sound K.Key.order) self.old self.new result (finding K.Key.order k.now) }
+        ensures rows { self.new.rows.now ≡ self.old.rows.now }
+        ensures lent { self.new.rows.ghost_name ≡ self.old.rows.ghost_name }
     {
-        self.table.find(k)
+        self.asks = one_more(self.asks);
+        match self.spot(k) {
+            Spot::Here(i) => Some(i + 1),
+            _ => None,
+        }
     }
 
     fn name(&mut self, k: &K) -> Result<u32, Full>
-        ensures does { Does (λ t. meaning_of t.table) (λ t. Sound K.Key.order t.table) self.old self.new result (naming K.Key.order k.now) }
-        ensures beyond { beyond self.new.table.rows.now ≡ beyond self.old.table.rows.now }
-        ensures lent { self.new.table.rows.ghost_name ≡ self.old.table.rows.ghost_name }
+        ensures does { Does meaning_of (Sound K.Key.order) self.old self.new result (naming K.Key.order k.now) }
+        ensures beyond { beyond self.new.rows.now ≡ beyond self.old.rows.now }
+        ensures lent { self.new.rows.ghost_name ≡ self.old.rows.ghost_name }
     {
-        self.table.name(k)
+        self.asks = one_more(self.asks);
+        let used = self.used;
+        let spot = self.spot(k);
+        if let Spot::Here(i) = spot {
+            return Ok(i + 1);
+        }
+        if used < capacity_over(self.rows.len()) {
+            hang(self.rows, used, spot, k);
+            self.used = used + 1;
+            Ok(used as u32 + 1)
+        } else {
+            Err(Full { size: used as u32 })
+        }
     }
 
     fn key(&mut self, n: u32) -> Result<K, Absent>
-        ensures does { Does (λ t. meaning_of t.table) (λ t. Sound K.Key.order t.table) self.old self.new result (keying n) }
-        ensures rows { self.new.table.rows.now ≡ self.old.table.rows.now }
-        ensures lent { self.new.table.rows.ghost_name ≡ self.old.table.rows.ghost_name }
+        ensures does { Does meaning_of (Sound K.Key.order) self.old self.new result (keying n) }
+        ensures rows { self.new.rows.now ≡ self.old.rows.now }
+        ensures lent { self.new.rows.ghost_name ≡ self.old.rows.ghost_name }
     {
-        self.table.key(n)
+        self.asks = one_more(self.asks);
+        key_in(self.held(), n)
     }
 }

@@ -8,5 +8,4 @@ pub mod calls;
 mod hang;
 mod look_up;
 pub mod row;
-mod table;
 pub mod tree;

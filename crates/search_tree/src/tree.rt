@@ -1,16 +1,18 @@
 // The search tree.
-ghost use Rattle.std.specs.Prelude.{◌^◌, ◌<◌, ◌≤◌, List, length};
+ghost use Rattle.std.specs.Prelude.{◌^◌, ◌<◌, ◌≤◌, length};
 ghost use Rattle.dictionary.specs.Meaning.{most};
 ghost use Rattle.search_tree.specs.Tree.{Linked};
 
-use crate::table::TreeTable;
+use crate::row::TreeRow;
 
 /// A dictionary over lent rows, one key a row, that uses only the order of its keys. What needs no order is a ghost
 /// field, so that a walk stays within the rows and ends, whatever they held before.
 #[derive(Drop)]
 pub struct SearchTree<'a, K> {
-    pub(crate) table: TreeTable<'a, K>,
-    ghost long: { table.used ≤ most (length table.rows.now) },
-    ghost counted: { table.asks < 2 ^ 64 },
-    ghost links: { Linked table.used table.rows.now },
+    pub(crate) rows: &'a mut [TreeRow<K>],
+    pub(crate) used: usize,
+    pub(crate) asks: u64,
+    ghost long: { used ≤ most (length rows.now) },
+    ghost counted: { asks < 2 ^ 64 },
+    ghost links: { Linked used rows.now },
 }

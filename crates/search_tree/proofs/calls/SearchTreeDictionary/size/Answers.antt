@@ -1,6 +1,0 @@
-use Rattle.std.proofs.Common.{sym, arith}
-use Rattle.dictionary.specs.Facts.{held_long}
-use Rattle.search_tree.proofs.calls.SearchTreeDictionary.size.Goals as goal
-
-pub returns : goal.returns
-returns g c = sym (held_long (λ w. w.key) c.args.self.now.table.rows.now c.args.self.now.table.used (omega arith))
