@@ -8,8 +8,8 @@ use Rattle.dictionary.specs.Rows.{column}
 use Rattle.trie.specs.Trie.{Under, at, go, Ends, ends_at, ends_on, Good, Goods, Sorted, Linked, Places, InPlace, SideAt, Turned, Way, bits_of, side, child, crits, keys}
 use Rattle.trie.specs.TrieFacts.{goods}
 use Rattle.trie.specs.declared.row.TrieRow.{TrieRow}
-use Rattle.trie.specs.declared.row.Slot.{Slot}
-use Rattle.trie.specs.declared.row.Slot.TheVariants.{Root}
+use Rattle.dictionary.specs.declared.rows.Slot.{Slot}
+use Rattle.dictionary.specs.declared.rows.Slot.TheVariants.{Root}
 use Rattle.trie.proofs.Grafts.{Grown, sides, goods_grown, root_kept, root_new, into, new_under, still, nodes_grown}
 use Rattle.dictionary.proofs.Held.{old_of, new_of, held_more, held_kept, column_same, column_other, column_kept}
 

@@ -4,8 +4,8 @@ use Rattle.trie.specs.Bits.{number}
 use Rattle.trie.specs.Trie.{Under, go, Good, Linked, Places, SideAt, SlotAt, SideTurned, Turned, Way, Passes, Hooked, side, child, crits}
 use Rattle.trie.specs.declared.row.Hook.{Hook}
 use Rattle.trie.specs.declared.row.TrieRow.{TrieRow}
-use Rattle.trie.specs.declared.row.Slot.{Slot}
-use Rattle.trie.specs.declared.row.Slot.TheVariants.{Root, Left, Right}
+use Rattle.dictionary.specs.declared.rows.Slot.{Slot}
+use Rattle.dictionary.specs.declared.rows.Slot.TheVariants.{Root, Left, Right}
 use Rattle.trie.specs.TrieFacts.{goods}
 use Rattle.trie.proofs.Steps.{node, crit_is, side_is, good_on, step_on}
 

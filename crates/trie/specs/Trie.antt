@@ -13,8 +13,8 @@ use Rattle.dictionary.specs.Rows.{held, column}
 use Rattle.trie.specs.declared.row.TrieRow.{TrieRow}
 use Rattle.trie.specs.declared.row.Met.{Met}
 use Rattle.trie.specs.declared.row.Met.TheVariants.{Here, Apart, Nothing}
-use Rattle.trie.specs.declared.row.Slot.{Slot}
-use Rattle.trie.specs.declared.row.Slot.TheVariants.{Root, Left, Right}
+use Rattle.dictionary.specs.declared.rows.Slot.{Slot}
+use Rattle.dictionary.specs.declared.rows.Slot.TheVariants.{Root, Left, Right}
 use Rattle.trie.specs.declared.row.Hook.{Hook}
 
 -- a link to one of n rows, and to an inner node only if that tests the bit `low` or a later one

@@ -5,8 +5,9 @@ ghost use Rattle.trie.specs.Trie.{Good, Hooked, InPlace, Linked, Places, PartsFr
 
 use crate::bits::bit_at;
 use crate::place::Place;
-use crate::row::{Hook, Slot, TrieRow};
+use crate::row::{Hook, TrieRow};
 use dictionary::key::Key;
+use dictionary::rows::Slot;
 
 /// The first key.
 pub(crate) fn plant<K: Key>(rows: &mut [TrieRow<K>], k: &K)

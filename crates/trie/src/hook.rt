@@ -5,8 +5,9 @@ ghost use Rattle.trie.specs.Trie.{Good, Hooked, Linked, Places, child, crits};
 
 use crate::bits::{bit_at, compare_places};
 use crate::place::Place;
-use crate::row::{Hook, Slot, TrieRow};
+use crate::row::{Hook, TrieRow};
 use dictionary::key::Key;
+use dictionary::rows::Slot;
 use std::cmp::Ordering;
 
 /// The first link on the key's way that leads to no inner node which tests an earlier place. Nothing if an inner node on

@@ -1,13 +1,11 @@
-// The walk for a key, what it meets, and the key of a number.
+// The walk for a key, and what it meets.
 ghost use Rattle.std.specs.Prelude.{◌≡◌, ◌<◌, ◌≤◌, length};
 ghost use Rattle.trie.specs.Bits.{bit};
-ghost use Rattle.dictionary.specs.Meaning.{key_of, or_absent};
-ghost use Rattle.trie.specs.Trie.{Ends, Good, Linked, Meets, Places, Rooted, child, crits, keys};
+ghost use Rattle.trie.specs.Trie.{Ends, Good, Linked, Meets, Places, Rooted, child, crits};
 
 use crate::bits::{bit_at, parting};
 use crate::row::{Met, TrieRow};
 use dictionary::key::Key;
-use dictionary::refusals::Absent;
 
 /// The leaf where the walk for the key ends.
 fn seek<K: Key>(rows: &[TrieRow<K>], used: usize, root: u32, k: &K) -> u32
@@ -48,18 +46,5 @@ pub(crate) fn look<K: Key>(rows: &[TrieRow<K>], used: usize, root: u32, k: &K) -
     match parting(k, &rows[leaf as usize].key) {
         None => Met::Here(leaf),
         Some(place) => Met::Apart(place),
-    }
-}
-
-/// Key n.
-pub(crate) fn fetch<K: Key>(rows: &[TrieRow<K>], used: usize, n: u32) -> Result<K, Absent>
-    requires { used ≤ length rows.now }
-    ensures { result ≡ or_absent (key_of (keys rows.now used) n) }
-{
-    let n = n as usize;
-    if n == 0 || n > used {
-        Err(Absent)
-    } else {
-        Ok(rows[n - 1].key)
     }
 }

@@ -3,6 +3,7 @@ ghost use Rattle.std.specs.Prelude.{◌≡◌};
 
 use crate::place::Place;
 use dictionary::key::Key;
+use dictionary::rows::{Row, Slot};
 
 /// A key, and an inner node that tests the bit at a place. Row i is leaf i and, but for the first, inner node i; rows
 /// count from 0 here. A link below 2^24 is a leaf, another is 2^24 more than its inner node.
@@ -28,20 +29,20 @@ impl<K: Key> TrieRow<K> {
     }
 }
 
+impl<K: Key> Row<K> for TrieRow<K> {
+    ghost key = { λ w. w.key };
+
+    fn key(&self) -> K {
+        self.key
+    }
+}
+
 /// What a look-up meets: the key itself, another key from which it first differs at a place, or an empty trie.
 #[derive(Clone, Copy)]
 pub(crate) enum Met {
     Here(u32),
     Apart(Place),
     Nothing,
-}
-
-/// A link of the trie: the root, or a side of an inner node.
-#[derive(Clone, Copy)]
-pub(crate) enum Slot {
-    Root,
-    Left(u32),
-    Right(u32),
 }
 
 /// Where a new inner node is hung: the slot, and the link that stands in it.

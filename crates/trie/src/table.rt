@@ -9,13 +9,13 @@ ghost use Rattle.trie.specs.TrieMeaning.{Formed, meaning_of, Sound};
 
 use crate::graft::{graft, plant};
 use crate::hook::hook;
-use crate::look_up::{fetch, look};
+use crate::look_up::look;
 use crate::place::Place;
 use crate::row::{Hook, Met, TrieRow};
 use dictionary::asks::one_more;
 use dictionary::key::Key;
 use dictionary::refusals::{Absent, Full};
-use dictionary::rows::capacity_over;
+use dictionary::rows::{capacity_over, key_in};
 
 // It has no ghost field: what a `&mut` beside a ghost field refers to cannot be lent on as a slice.
 #[derive(Drop)]
@@ -50,7 +50,7 @@ impl<'a, K: Key> TrieTable<'a, K> {
         requires { Formed self.now }
         ensures { result ≡ or_absent (key_of (keys self.now.rows.now self.now.used) n) }
     {
-        fetch(self.rows, self.used, n)
+        key_in(&self.rows[..self.used], n)
     }
 
     // Appends the first key, if there is room.

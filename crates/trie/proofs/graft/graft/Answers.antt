@@ -3,7 +3,7 @@ use Rattle.std.proofs.lemmas.List.{length-set}
 use Rattle.trie.specs.Bits.{bit, number}
 use Rattle.trie.specs.Trie.{SideAt, SlotAt, Way, child, crits}
 use Rattle.trie.specs.declared.place.Place.{Place}
-use Rattle.trie.specs.declared.row.Slot.TheVariants.{Left, Right}
+use Rattle.dictionary.specs.declared.rows.Slot.TheVariants.{Left, Right}
 use Rattle.trie.proofs.Grafted.{ends_under, graft_root, graft_side, is_turned}
 use Rattle.trie.proofs.graft.graft.Goals as goal
 
