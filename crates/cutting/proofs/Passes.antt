@@ -1,13 +1,15 @@
 -- Passes over lists that hold a row, and what one write of a pass leaves.
-use Rattle.std.proofs.Common.{◌≡◌, ℕ, zero, suc, ◌+◌, ◌%◌, ◌<◌, ◌≤◌, Bool, true, false, ◌≢◌, List, length, take, set, replicate, sym, refl, ap, ◌∙◌, ap₂, ⊎_elim, zero-add, arith}
+use Rattle.std.proofs.Common.{◌≡◌, ℕ, zero, suc, ◌+◌, ◌-◌, ◌%◌, ◌<◌, ◌≤◌, Bool, true, false, ◌≢◌, List, ◌++◌, length, take, drop, set, replicate, sym, refl, ap, ◌∙◌, ap₂, ⊎_elim, zero-add, arith}
 use mir.Val.{bool_byte}
 use Rattle.std.proofs.lemmas.List.FromFn.{length-map-range_with_len, get_or-map-range_with_len, fill_by_all}
-use Rattle.std.proofs.lemmas.List.{get_or-set_same, get_or-set_other, get_or-take, length-take-le}
+use Rattle.std.proofs.lemmas.List.{get_or-set_same, get_or-set_other, get_or-append-add, get_or-drop, get_or-take, length-take-le}
 use Rattle.std.proofs.lemmas.Bool.{cases_eq}
 use Rattle.cutting.specs.Rule.{fresh, recolour, left, right, reduce, peak, fourfold, colours, begins}
 use Rattle.cutting.specs.Rows.{at, cuts, mark, Front}
+use Rattle.cutting.specs.declared.place.Place.{Place}
+use Rattle.cutting.specs.Places.{place, Ruled, Made}
 use Rattle.cutting.specs.Passes.{listed, coloured, without, starts, marks_of}
-use Rattle.cutting.proofs.Places.{right_same, reduce_same, summit_peak}
+use Rattle.cutting.proofs.Places.{right_same, reduce_same}
 
 -- ---- one write
 
@@ -24,6 +26,12 @@ pub zeros : (n k : ℕ) → at (replicate n 0) k ≡ 0
 zeros zero k = refl
 zeros (suc n) zero = refl
 zeros (suc n) (suc k) = zeros n k
+
+-- past a front that was written over zeros
+pub zeros_past : (n m k : ℕ) (xs : List ℕ) → length xs ≡ n → n ≤ k → at (xs ++ drop n (replicate m 0)) k ≡ 0
+zeros_past n m k xs l h =
+    let e : k ≡ length xs + (k - n) = omega arith in
+    ap (at (xs ++ drop n (replicate m 0))) e ∙ get_or-append-add xs (drop n (replicate m 0)) (k - n) 0 ∙ get_or-drop n (replicate m 0) (k - n) 0 ∙ zeros m (n + (k - n))
 
 pub byte_mark : (b : Bool) → bool_byte b ≡ mark b
 byte_mark true = refl
@@ -47,6 +55,11 @@ listed_at : (n : ℕ) (f : ℕ → ℕ) → Front n (listed n f) f
 unfolding listed
 listed_at n f k l = get_or-map-range_with_len f 0 n k k 0 l (zero-add k)
 
+-- a pass that gives what f says of each place
+pub made_listed : (f : List ℕ → ℕ → ℕ) (gives : Place → ℕ → Type 0) → ((p : Place) (v : ℕ) → gives p v → Ruled f p v) → (old new : List ℕ) → Made gives old new
+    → new ≡ listed (length old) (f old)
+made_listed f gives h old new m = listed_from (length old) (f old) new m.size (λ k l. h (place old k) (at new k) (m.each k l) old k l refl)
+
 -- ---- a pass over rows that are alike
 
 module _ (n : ℕ) (c d : ℕ → ℕ) (h : (k : ℕ) → k < n → c k ≡ d k) where
@@ -66,10 +79,9 @@ module _ (n : ℕ) (c d : ℕ → ℕ) (h : (k : ℕ) → k < n → c k ≡ d k)
   pub reduce_like : (q k : ℕ) → k < n → reduce n q c k ≡ reduce n q d k
   reduce_like q k l = reduce_same n n q c d k k (left_like k l) (h k l) (right_like k)
 
-  pub peak_like : (k : ℕ) → k < n → peak n c k ≡ peak n d k
-  peak_like k l =
-      sym (summit_peak n c k (left d k) (d k) (right n d k) (sym (left_like k l)) (sym (h k l)) (sym (right_like k)))
-      ∙ summit_peak n d k (left d k) (d k) (right n d k) refl refl refl
+  peak_like : (k : ℕ) → k < n → peak n c k ≡ peak n d k
+  unfolding peak
+  peak_like k l = rw (left_like k l, h k l, right_like k)
 
 -- ---- all passes
 
@@ -96,36 +108,17 @@ module _ (n : ℕ) (c : ℕ → ℕ) (xs : List ℕ) (h : Holds n c xs) where
   starts_holds = holds n (length xs) _ _ h.size (λ k l. ap mark (ap (λ m. peak m (at xs) k) h.size ∙ peak_like n (at xs) c h.each k l))
 
 -- all passes together are the rule
-pub marks_at : (names : List ℕ) → Front (length names) (marks_of names) (λ k. mark (cuts names k))
+marks_hold : (names : List ℕ) → Holds (length names) (λ k. mark (cuts names k)) (marks_of names)
 unfolding fourfold colours begins
-marks_at names =
+marks_hold names =
     let n = length names in
     let h0 : Holds n (at names) names = record { size = refl; each = λ k l. refl } in
     let h4 : Holds n (fourfold (at names)) (coloured (coloured (coloured (coloured names)))) =
     coloured_holds n _ _ (coloured_holds n _ _ (coloured_holds n _ _ (coloured_holds n _ _ h0))) in
-    (starts_holds n _ _ (without_holds n _ _ (without_holds n _ _ (without_holds n _ _ h4 5) 4) 3)).each
+    starts_holds n _ _ (without_holds n _ _ (without_holds n _ _ (without_holds n _ _ h4 5) 4) 3)
 
--- ---- the front of an array
+pub marks_at : (names : List ℕ) → Front (length names) (marks_of names) (λ k. mark (cuts names k))
+marks_at names = (marks_hold names).each
 
-module _ (n : ℕ) (old new : List ℕ) (p : n ≤ length old) (q : n ≤ length new) where
-  front : (k : ℕ) → k < n → at old k ≡ at (take n old) k
-  front k l = sym (get_or-take n old k 0 l)
-
-  -- made by a pass that is alike on old and on its front
-  made : (f : ℕ → (ℕ → ℕ) → ℕ → ℕ) → ((k : ℕ) → k < n → f n (at old) k ≡ f n (at (take n old)) k) → Front n new (f n (at old))
-      → take n new ≡ listed (length (take n old)) (f (length (take n old)) (at (take n old)))
-  made f e h =
-      listed_take n (f n (at (take n old))) new q (λ k l. h k l ∙ e k l)
-      ∙ ap (λ m. listed m (f m (at (take n old)))) (sym (length-take-le n old p))
-
-  pub coloured_take : Front n new (recolour (at old)) → take n new ≡ coloured (take n old)
-  unfolding coloured
-  coloured_take = made (λ n c. recolour c) (recolour_like n (at old) (at (take n old)) front)
-
-  pub without_take : (j : ℕ) → Front n new (reduce n j (at old)) → take n new ≡ without j (take n old)
-  unfolding without
-  without_take j = made (λ n c. reduce n j c) (reduce_like n (at old) (at (take n old)) front j)
-
-  pub starts_take : Front n new (λ k. mark (peak n (at old) k)) → take n new ≡ starts (take n old)
-  unfolding starts
-  starts_take = made (λ n c k. mark (peak n c k)) (λ k l. ap mark (peak_like n (at old) (at (take n old)) front k l))
+pub marks_size : (names : List ℕ) → length (marks_of names) ≡ length names
+marks_size names = (marks_hold names).size

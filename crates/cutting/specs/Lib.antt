@@ -1,5 +1,6 @@
 pub mod Rule
 pub mod Rows
+pub mod Places
 pub mod Passes
 pub mod Colours
 pub mod Locality

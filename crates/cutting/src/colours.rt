@@ -1,9 +1,7 @@
-//! The rule at one place: its new colour, a colour that no neighbour has, and whether a block begins there.
-ghost use Rattle.std.specs.Prelude.{◌≡◌, ◌<◌, ◌≢◌};
-ghost use Rattle.cutting.specs.Rule.{bit, free, fresh, lowest, summit};
-
-/// The colour that stands for a neighbour that is not there.
-pub(crate) const NOBODY: u8 = 9;
+//! New colours: one made of two colours, and one that no neighbour has.
+ghost use Rattle.std.specs.Prelude.{◌≡◌, ◌%◌, ◌<◌, MatchOption, ◌≢◌};
+ghost use Rattle.cutting.specs.Places.{near};
+ghost use Rattle.cutting.specs.Rule.{bit, free, fresh, lowest};
 
 /// The number of the lowest bit in which `x` and `y` differ.
 fn lowest_difference(x: u32, y: u32) -> u32
@@ -25,7 +23,7 @@ fn bit_of(x: u32, b: u32) -> u32
 
 /// The new colour of a place with colour `own` whose left neighbour has colour `before`: twice the number of the lowest bit in which they differ, and that
 /// bit of `own`. Equal neighbours, of which the rule says nothing, give 64.
-pub(crate) fn fresh_colour(before: u32, own: u32) -> u8
+fn fresh_colour(before: u32, own: u32) -> u8
     ensures { result ≡ fresh before own }
 {
     if before == own {
@@ -35,23 +33,25 @@ pub(crate) fn fresh_colour(before: u32, own: u32) -> u8
     (2 * b + bit_of(own, b)) as u8
 }
 
-/// The smallest of 0, 1 and 2 that is neither `a` nor `b`.
-pub(crate) fn free_colour(a: u8, b: u8) -> u8
-    ensures { result ≡ free a b }
+/// The new colour of a place with colour `own`, after its left neighbour, if it has one.
+pub(crate) fn recoloured(before: Option<u32>, own: u32) -> u8
+    ensures { MatchOption before (result ≡ own % 2) (λ b. result ≡ fresh b own) }
 {
-    if a != 0 && b != 0 {
+    match before {
+        Some(before) => fresh_colour(before, own),
+        None => (own % 2) as u8,
+    }
+}
+
+/// The smallest of 0, 1 and 2 that is neither `a` nor `b`.
+pub(crate) fn free_colour(a: Option<u8>, b: Option<u8>) -> u8
+    ensures { result ≡ free (near a) (near b) }
+{
+    if a != Some(0) && b != Some(0) {
         0
-    } else if a != 1 && b != 1 {
+    } else if a != Some(1) && b != Some(1) {
         1
     } else {
         2
     }
-}
-
-/// Whether a block begins at place `i` of `n`, which has colour `own` between `before` and `after`.
-pub(crate) fn is_summit(n: usize, i: usize, before: u8, own: u8, after: u8) -> bool
-    requires { i < n }
-    ensures { result ≡ summit n i before own after }
-{
-    i == 0 || (i >= 2 && n - i >= 2 && before < own && after < own)
 }

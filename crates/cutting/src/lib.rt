@@ -6,6 +6,7 @@
 
 mod colours;
 pub mod laws;
+mod place;
 pub mod row;
 pub mod runs;
 pub mod walk;

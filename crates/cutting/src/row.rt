@@ -1,79 +1,63 @@
 //! The blocks of a whole row: every pass goes once along the caller's bytes and leaves its result in them.
 ghost use Rattle.std.specs.Prelude.{◌≡◌, ◌<◌, length, MatchResult};
 ghost use Rattle.cutting.specs.Passes.{coloured, marks_of, starts, without};
-ghost use Rattle.cutting.specs.Rows.{Marked, at};
-ghost use Rattle.cutting.specs.Rule.{right};
+ghost use Rattle.cutting.specs.Places.{Made};
+ghost use Rattle.cutting.specs.Rows.{Marked};
 
-use crate::colours::{NOBODY, free_colour, fresh_colour, is_summit};
+use crate::colours::recoloured;
+use crate::place::Place;
 
 /// The scratch has fewer places than the row has names.
 #[derive(Drop, Debug, Clone, Copy, PartialEq, Eq)]
 pub struct NoRoom;
 
 /// The first recolouring, of the names themselves.
-fn colour_names(names: &[u32], colours: &mut [u8])
+pub(crate) fn colour_names(names: &[u32], colours: &mut [u8])
     requires { length names.now ≡ length colours.old }
     ensures { colours.new ≡ coloured names.now }
 {
-    for i in 0..names.len() {
-        colours[i] = if i == 0 {
-            (names[i] % 2) as u8
-        } else {
-            fresh_colour(names[i - 1], names[i])
-        };
+    let mut before = None;
+    for (i, name) in names.iter().enumerate() {
+        colours[i] = recoloured(before, *name);
+        before = Some(*name);
     }
 }
 
-/// A later recolouring, from the right, so that each place still finds its left neighbour's old colour.
+/// All places take together the colour that `rule` gives them: from the left, with the left neighbour's old colour in `before`.
+fn pass<F: Fn(Place) -> u8>(colours: &mut [u8], rule: F)
+    requires { F.IsAlwaysCallable rule }
+    ensures { Made (F.post rule) colours.old colours.new }
+{
+    let mut before = None;
+    for i in 0..colours.len() {
+        let place = Place {
+            before,
+            ..Place::of(colours, i)
+        };
+        colours[i] = rule(place);
+        before = Some(place.own);
+    }
+}
+
+/// A later recolouring.
 fn colour_again(colours: &mut [u8])
     ensures { colours.new ≡ coloured colours.old }
 {
-    for i in (0..colours.len()).rev() {
-        colours[i] = if i == 0 {
-            colours[i] % 2
-        } else {
-            fresh_colour(colours[i - 1] as u32, colours[i] as u32)
-        };
-    }
+    pass(colours, |place| place.recoloured());
 }
 
-/// The colour right of place `i`.
-fn right_of(colours: &[u8], i: usize) -> u8
-    requires { i < length colours.now }
-    ensures { result ≡ right (length colours.now) (at colours.now) i }
-{
-    if i + 1 < colours.len() {
-        colours[i + 1]
-    } else {
-        NOBODY
-    }
-}
-
-/// All places of colour `k` take a colour that no neighbour has, from the left; `before` is the left neighbour's old colour.
+/// All places of colour `k` take a colour that no neighbour has.
 fn reduce_colour(colours: &mut [u8], k: u8)
     ensures { colours.new ≡ without k colours.old }
 {
-    let mut before = NOBODY;
-    for i in 0..colours.len() {
-        let own = colours[i];
-        if own == k {
-            colours[i] = free_colour(before, right_of(colours, i));
-        }
-        before = own;
-    }
+    pass(colours, |place| place.reduced(k));
 }
 
-/// Marks the places at which blocks begin, over the last colours, from the left.
+/// Marks the places at which blocks begin, over the last colours.
 fn mark_starts(colours: &mut [u8])
     ensures { colours.new ≡ starts colours.old }
 {
-    let mut before = NOBODY;
-    for i in 0..colours.len() {
-        let own = colours[i];
-        let after = right_of(colours, i);
-        colours[i] = is_summit(colours.len(), i, before, own, after) as u8;
-        before = own;
-    }
+    pass(colours, |place| place.mark());
 }
 
 /// The marks of a whole row, in a slice of its length.

@@ -13,22 +13,16 @@ pub struct Run {
 fn leading(row: &[u32], name: u32) -> usize
     ensures { Leading row.now name result }
 {
-    for (i, other) in row.iter().enumerate() {
-        if *other != name {
-            return i;
-        }
-    }
-    row.len()
+    row.iter()
+        .position(|other| *other != name)
+        .unwrap_or(row.len())
 }
 
 /// The run of `row` that begins at `start`; nothing if `start` is past the row. A row is walked from place 0 on, each run from the end of the one before.
 pub fn next_run(row: &[u32], start: usize) -> Option<Run>
     ensures { MatchOption result (length row.now ≤ start) (λ run. RunHanded row.now start run) }
 {
-    if start >= row.len() {
-        return None;
-    }
-    let name = row[start];
+    let name = *row.get(start)?;
     let times = leading(&row[start..], name);
     Some(Run { name, times })
 }

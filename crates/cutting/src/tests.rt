@@ -34,9 +34,7 @@ fn hands_out_the_second_block(rt: HostRuntime) -> Result<(), Fail> {
 #[test]
 fn cuts_a_window_as_its_row(rt: HostRuntime) -> Result<(), Fail> {
     let mut names = [9; 96];
-    for (i, name) in ROW.iter().enumerate() {
-        names[i] = *name;
-    }
+    names[..8].copy_from_slice(&ROW);
     let Some(window) = Window::new(names, 8, true, true) else {
         assert!(rt; false);
         return Ok(());
