@@ -3,7 +3,7 @@
 #![tactic(auto)]
 
 use dictionary::Call;
-use script::Command;
+use script::{Command, NotACommand};
 use show::print_run;
 use std::io;
 
@@ -16,15 +16,15 @@ fn main(rt: HostRuntime) -> io::Result<()> {
     let mut calls: Vec<Call<u8>> = Vec::new(rt.alloc());
     for line in rt.lines(rt.alloc()) {
         let line = line?;
-        match script::read_command(line.as_str()) {
-            Command::New(n) => {
+        match line.as_str().parse() {
+            Ok(Command::New(n)) => {
                 print_run(&rt, rows, calls.as_slice())?;
                 calls.clear();
                 rows = n;
             }
-            Command::Call(call) => calls.push(call)?,
-            Command::Blank => {}
-            Command::Unknown => println!(rt; "not a command: {line}")?,
+            Ok(Command::Call(call)) => calls.push(call)?,
+            Ok(Command::Blank) => {}
+            Err(NotACommand) => println!(rt; "not a command: {line}")?,
         }
     }
     print_run(&rt, rows, calls.as_slice())

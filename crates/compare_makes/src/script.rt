@@ -1,49 +1,73 @@
 // The lines of a script.
 use dictionary::Call;
+use std::num::ParseIntError;
+use std::str::FromStr;
 
 /// The most rows that a script may ask for.
-pub const MOST_ROWS: usize = 64;
+const MOST_ROWS: usize = 64;
 
+/// What a line asks for. A blank line asks for nothing.
 #[derive(Clone, Copy)]
 pub enum Command {
     New(usize),
     Call(Call<u8>),
     Blank,
-    Unknown,
 }
 
-/// The command of a line: `new ROWS`, `find X`, `name X`, `key N`, `size`, `capacity` or `asks`, where X is one byte.
-pub fn read_command(line: &str) -> Command {
-    match line.split_once(' ') {
-        Some((verb, rest)) => with_argument(verb, rest),
-        None => match line {
-            "" => Command::Blank,
-            "size" => Command::Call(Call::Size),
-            "capacity" => Command::Call(Call::Capacity),
-            "asks" => Command::Call(Call::Asks),
-            _ => Command::Unknown,
-        },
+/// The line is no command.
+#[derive(Clone, Copy, Debug, PartialEq, Eq)]
+pub struct NotACommand;
+
+impl From<ParseIntError> for NotACommand {
+    fn from(_: ParseIntError) -> NotACommand {
+        NotACommand
     }
 }
 
-fn with_argument(verb: &str, argument: &str) -> Command {
+/// `new ROWS`, `find X`, `name X`, `key N`, `size`, `capacity` or `asks`, where X is one byte.
+impl FromStr for Command {
+    type Err = NotACommand;
+
+    fn from_str(line: &str) -> Result<Command, NotACommand> {
+        match line.split_once(' ') {
+            Some((verb, argument)) => with_argument(verb, argument),
+            None => alone(line),
+        }
+    }
+}
+
+fn alone(verb: &str) -> Result<Command, NotACommand> {
     match verb {
-        "new" => match argument.parse::<usize>() {
-            Ok(rows) if rows <= MOST_ROWS => Command::New(rows),
-            _ => Command::Unknown,
-        },
-        "find" => match argument.as_bytes() {
-            [b] => Command::Call(Call::Find(*b)),
-            _ => Command::Unknown,
-        },
-        "name" => match argument.as_bytes() {
-            [b] => Command::Call(Call::Name(*b)),
-            _ => Command::Unknown,
-        },
-        "key" => match argument.parse::<u32>() {
-            Ok(n) => Command::Call(Call::Key(n)),
-            Err(_) => Command::Unknown,
-        },
-        _ => Command::Unknown,
+        "" => Ok(Command::Blank),
+        "size" => Ok(Command::Call(Call::Size)),
+        "capacity" => Ok(Command::Call(Call::Capacity)),
+        "asks" => Ok(Command::Call(Call::Asks)),
+        _ => Err(NotACommand),
+    }
+}
+
+fn with_argument(verb: &str, argument: &str) -> Result<Command, NotACommand> {
+    match verb {
+        "new" => Ok(Command::New(rows(argument)?)),
+        "find" => Ok(Command::Call(Call::Find(one_byte(argument)?))),
+        "name" => Ok(Command::Call(Call::Name(one_byte(argument)?))),
+        "key" => Ok(Command::Call(Call::Key(argument.parse()?))),
+        _ => Err(NotACommand),
+    }
+}
+
+fn rows(argument: &str) -> Result<usize, NotACommand> {
+    let rows = argument.parse()?;
+    if rows <= MOST_ROWS {
+        Ok(rows)
+    } else {
+        Err(NotACommand)
+    }
+}
+
+fn one_byte(argument: &str) -> Result<u8, NotACommand> {
+    match argument.as_bytes() {
+        [b] => Ok(*b),
+        _ => Err(NotACommand),
     }
 }

@@ -1,5 +1,5 @@
 // The answers of both makes, a line for each call.
-use crate::makes::compare;
+use crate::makes::{Counts, compare};
 use dictionary::{Answer, Call};
 use search_tree::TreeRow;
 use std::{fmt, io};
@@ -16,6 +16,12 @@ impl<'a> fmt::Display for Shown<'a> {
     fn fmt<W: fmt::Write>(&self, f: &mut fmt::Formatter<W>) -> fmt::Result {
         show_call(self.call, f)?;
         show_answer(self.answer, f)
+    }
+}
+
+impl fmt::Display for Counts {
+    fn fmt<W: fmt::Write>(&self, f: &mut fmt::Formatter<W>) -> fmt::Result {
+        write!(f, "size {}, asks {}", self.size, self.asks)
     }
 }
 
@@ -74,12 +80,6 @@ pub fn print_run(rt: &HostRuntime, rows: usize, calls: &[Call<u8>]) -> io::Resul
             )?;
         }
     }
-    println!(rt;
-        "tree: size {}, asks {}",
-        totals.tree_size, totals.tree_asks
-    )?;
-    println!(rt;
-        "trie: size {}, asks {}",
-        totals.trie_size, totals.trie_asks
-    )
+    println!(rt; "tree: {}", totals.tree)?;
+    println!(rt; "trie: {}", totals.trie)
 }

@@ -22,12 +22,11 @@ returns g c =
     let trie = c.new-trie.ensures in
     let both = c.side_by_side.ensures in
     record {
-      tree = carried g.K.Key.order _ _ _ _ _ _ _ _ tree.meaning (both.left tree.sound) c.size.ensures c.asks.ensures;
-      trie = carried g.K.Key.order _ _ _ _ _ _ _ _ trie.meaning (both.right trie.sound) c.size-2.ensures c.asks-2.ensures;
+      tree = carried g.K.Key.order _ _ _ _ _ _ _ _ tree.meaning (both.left tree.sound) c.counts_of.ensures.size c.counts_of.ensures.asks;
+      trie = carried g.K.Key.order _ _ _ _ _ _ _ _ trie.meaning (both.right trie.sound) c.counts_of-2.ensures.size c.counts_of-2.ensures.asks;
       alike = λ same room.
-          let alike = both.alike tree.sound trie.sound (tree.meaning ∙ ap new same ∙ sym trie.meaning) room in (
-            alike.0,
-            c.size.ensures ∙ ap (λ m. length m.keys) alike.1 ∙ sym c.size-2.ensures,
-            c.asks.ensures ∙ ap (λ m. m.asks) alike.1 ∙ sym c.asks-2.ensures,
-          );
+          let alike = both.alike tree.sound trie.sound (tree.meaning ∙ ap new same ∙ sym trie.meaning) room in
+          let size = c.counts_of.ensures.size ∙ ap (λ m. length m.keys) alike.1 ∙ sym c.counts_of-2.ensures.size in
+          let asks = c.counts_of.ensures.asks ∙ ap (λ m. m.asks) alike.1 ∙ sym c.counts_of-2.ensures.asks in
+          (alike.0, λ i. record { size = size i; asks = asks i });
     }
