@@ -3,16 +3,16 @@
 --     file_letter f      M or I
 --     line_told n p      the line that a refusal of number n at the place p tells
 --     report_of o        the line that reports the outcome o: fields parted by tabs, byte 10 last
-use Rattle.std.specs.Prelude.{ℕ, cond, ◌||◌, List, [], ◌∷◌, ◌++◌, take, codes, ◌==◌}
+use Rattle.std.specs.Prelude.{ℕ, cond, ◌||◌, List, [], ◌∷◌, ◌++◌, codes, ◌==◌}
 use Rattle.texts.specs.declared.report.DeliveredFile.{DeliveredFile}
 use Rattle.texts.specs.declared.report.DeliveredFile.TheVariants.{Magnets, Interlock}
 use Rattle.texts.specs.declared.report.Outcome.{Outcome}
 use Rattle.texts.specs.declared.report.Outcome.TheVariants.{Same, Differ, Refused}
-use Rattle.texts.specs.declared.report_line.ReportLine.{ReportLine}
+use Rattle.arrayvec.specs.ArrayString.{ArrayString}
 use Rattle.texts.specs.Numbers.{digits}
 
-abbrev pub text_of : ReportLine → List ℕ
-text_of l = take l.len l.bytes
+abbrev pub text_of : ArrayString → List ℕ
+text_of l = l.bytes
 
 abbrev pub file_letter : DeliveredFile → ℕ
 file_letter Magnets = 77
@@ -25,4 +25,4 @@ line_told number place = cond (number == 1 || number == 2) place 0
 abbrev pub report_of : Outcome → List ℕ
 report_of (Same lines) = codes "same" ++ (9 ∷ (digits lines ++ (10 ∷ [])))
 report_of (Differ line) = codes "differ" ++ (9 ∷ (digits line ++ (10 ∷ [])))
-report_of (Refused file number place) = codes "refused" ++ (9 ∷ (file_letter file ∷ (9 ∷ (digits number ++ (9 ∷ (digits (line_told number place) ++ (10 ∷ [])))))))
+report_of (Refused file f) = codes "refused" ++ (9 ∷ (file_letter file ∷ (9 ∷ (digits f.number ++ (9 ∷ (digits (line_told f.number f.place) ++ (10 ∷ [])))))))
