@@ -5,25 +5,26 @@ use Rattle.lines.specs.declared.faults.LineFault.{LineFault}
 use Rattle.lines.specs.declared.record.Record.{Record}
 use Rattle.lines.specs.Laws.{SameAnswer}
 use Rattle.lines.specs.Layout.{record_of}
-use Rattle.lines.specs.Parts.{onto, parts}
+use Rattle.lines.specs.Parts.{parts}
+use Rattle.std.specs.List.{onto_first}
 use Rattle.lines.specs.Reading.{Reading, with, at_row, reading, read_whole}
 use Rattle.lines.proofs.Cuts.{parts_some}
 
 -- ---- the parts of two lists with a byte between them
 
-onto-append : (xs : List ℕ) (ps qs : List (List ℕ)) → 0 < length ps → onto xs (ps ++ qs) ≡ onto xs ps ++ qs
-onto-append xs [] qs h = absurd (omega arith)
-onto-append xs (p ∷ ps) qs h = refl
+onto_first-append : (x : ℕ) (ps qs : List (List ℕ)) → 0 < length ps → onto_first x (ps ++ qs) ≡ onto_first x ps ++ qs
+onto_first-append x [] qs h = absurd (omega arith)
+onto_first-append x (p ∷ ps) qs h = refl
 
 pub parts-append : (b : ℕ) (xs ys : List ℕ) → parts b (xs ++ (b ∷ ys)) ≡ parts b xs ++ parts b ys
-parts-append b [] ys = cond-true (eqb b b) ([] ∷ parts b ys) (onto (b ∷ []) (parts b ys)) (eq-eqb b b refl)
+parts-append b [] ys = cond-true (eqb b b) ([] ∷ parts b ys) (onto_first b (parts b ys)) (eq-eqb b b refl)
 parts-append b (x ∷ xs) ys =
-    ap (λ ps. cond (eqb x b) ([] ∷ ps) (onto (x ∷ []) ps)) (parts-append b xs ys)
+    ap (λ ps. cond (eqb x b) ([] ∷ ps) (onto_first x ps)) (parts-append b xs ys)
     ∙ by_byte (eqb x b)
   where
-    by_byte : (t : _) → cond t ([] ∷ (parts b xs ++ parts b ys)) (onto (x ∷ []) (parts b xs ++ parts b ys)) ≡ cond t ([] ∷ parts b xs) (onto (x ∷ []) (parts b xs)) ++ parts b ys
+    by_byte : (t : _) → cond t ([] ∷ (parts b xs ++ parts b ys)) (onto_first x (parts b xs ++ parts b ys)) ≡ cond t ([] ∷ parts b xs) (onto_first x (parts b xs)) ++ parts b ys
     by_byte true = refl
-    by_byte false = onto-append (x ∷ []) (parts b xs) (parts b ys) (parts_some b xs)
+    by_byte false = onto_first-append x (parts b xs) (parts b ys) (parts_some b xs)
 
 -- ---- where the reader stands
 
@@ -45,16 +46,16 @@ size : List (List ℕ) → ℕ
 size [] = 0
 size (p ∷ ps) = length p + 1 + size ps
 
-size_onto : (x : ℕ) (ps : List (List ℕ)) → 0 < length ps → size (onto (x ∷ []) ps) ≡ size ps + 1
+size_onto_first : (x : ℕ) (ps : List (List ℕ)) → 0 < length ps → size (onto_first x ps) ≡ size ps + 1
 unfolding size
-size_onto x [] h = absurd (omega arith)
-size_onto x (p ∷ ps) h = omega arith
+size_onto_first x [] h = absurd (omega arith)
+size_onto_first x (p ∷ ps) h = omega arith
 
 size_parts : (b : ℕ) (xs : List ℕ) → size (parts b xs) ≡ length xs + 1
 unfolding size
 size_parts b [] = refl
 size_parts b (x ∷ xs) =
-    cond_both (eqb x b) ([] ∷ parts b xs) (onto (x ∷ []) (parts b xs)) (λ ps. size ps ≡ length (x ∷ xs) + 1) (λ _. omega (arith, size_parts b xs)) (λ _. omega (arith, size_parts b xs, size_onto x (parts b xs) (parts_some b xs)))
+    cond_both (eqb x b) ([] ∷ parts b xs) (onto_first x (parts b xs)) (λ ps. size ps ≡ length (x ∷ xs) + 1) (λ _. omega (arith, size_parts b xs)) (λ _. omega (arith, size_parts b xs, size_onto_first x (parts b xs) (parts_some b xs)))
 
 -- ---- the same refusal
 

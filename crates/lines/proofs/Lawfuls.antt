@@ -1,10 +1,11 @@
 -- Every record that is read is lawful.
 use Rattle.std.proofs.Common.{◌≡◌, ℕ, zero, suc, ◌+◌, ◌≤◌, Bool, true, false, ◌&&◌, leb, List, [], ◌∷◌, length, Some, None, Option, refl, subst, arith}
+use Rattle.std.specs.Bool.{then_some}
 use Rattle.std.specs.List.{AllByRecursion}
 use Rattle.std.proofs.lemmas.Bool.{and_parts, leb-true}
 use Rattle.lines.specs.declared.kind.Kind.{Kind}
 use Rattle.lines.specs.declared.record.Record.{Record}
-use Rattle.lines.specs.Layout.{given, when, is_circuit, circuit_of, kind_of_one, number_of, limit_of, chain_of, to_record, of_fields, of_parts, record_of, Lawful}
+use Rattle.lines.specs.Layout.{given, is_circuit, circuit_of, kind_of_one, number_of, number_within, limit_of, chain_of, to_record, of_fields, of_parts, record_of, Lawful}
 use Rattle.lines.specs.declared.reader.LineReader.{LineReader}
 use Rattle.lines.specs.Parts.{parts}
 use Rattle.lines.specs.Readers.{left, reading_of}
@@ -16,31 +17,25 @@ pub given_some : {A B : Type 0} (o : Option A) (f : A → Option B) (b : B) → 
 given_some None f b h = let z : ◌≡◌ {A = ℕ} 0 1 = cc in absurd (omega arith)
 given_some (Some a) f b h = (a, refl, h)
 
-when_some : {A : Type 0} (t : Bool) (x y : A) → when t x ≡ Some y → (t ≡ true) × (x ≡ y)
-when_some true x y h = (refl, cc)
-when_some false x y h = let z : ◌≡◌ {A = ℕ} 0 1 = cc in absurd (omega arith)
+then_some_is : {A : Type 0} (t : Bool) (x y : A) → then_some t x ≡ Some y → (t ≡ true) × (x ≡ y)
+then_some_is true x y h = (refl, cc)
+then_some_is false x y h = let z : ◌≡◌ {A = ℕ} 0 1 = cc in absurd (omega arith)
 
 same_some : {A : Type 0} (x y : A) → Some x ≡ Some y → x ≡ y
 same_some x y h = cc
 
 -- ---- fields, lines
 
-limit_in : (bs : List ℕ) (n : ℕ) → limit_of bs ≡ Some n → n ≤ 2000000
-limit_in bs n h =
-    let p = given_some (number_of 7 bs) (λ m. when (leb m 2000000) m) n h in
-    let q = when_some (leb p.0 2000000) p.0 n p.2 in
-    omega (arith, leb-true p.0 2000000 q.0, q.1)
+number_in : (digits least most : ℕ) (bs : List ℕ) (n : ℕ) → number_within digits least most bs ≡ Some n → (least ≤ n) × (n ≤ most)
+number_in digits least most bs n h =
+    let p = given_some (number_of digits bs) (λ m. then_some (leb least m && leb m most) m) n h in
+    let q = then_some_is (leb least p.0 && leb p.0 most) p.0 n p.2 in
+    let t = and_parts (leb least p.0) (leb p.0 most) q.0 in
+    (omega (arith, leb-true least p.0 t.0, q.1), omega (arith, leb-true p.0 most t.1, q.1))
 
-chain_in : (bs : List ℕ) (n : ℕ) → chain_of bs ≡ Some n → (1 ≤ n) × (n ≤ 64)
-chain_in bs n h =
-    let p = given_some (number_of 2 bs) (λ m. when (leb 1 m && leb m 64) m) n h in
-    let q = when_some (leb 1 p.0 && leb p.0 64) p.0 n p.2 in
-    let t = and_parts (leb 1 p.0) (leb p.0 64) q.0 in
-    (omega (arith, leb-true 1 p.0 t.0, q.1), omega (arith, leb-true p.0 64 t.1, q.1))
-
-to_record_lem : (c bs : List ℕ) (k : Kind) (n m : ℕ) → when (is_circuit c) c ≡ Some bs → n ≤ 2000000 → (1 ≤ m) × (m ≤ 64) → Lawful (to_record bs k n m)
+to_record_lem : (c bs : List ℕ) (k : Kind) (n m : ℕ) → then_some (is_circuit c) c ≡ Some bs → n ≤ 2000000 → (1 ≤ m) × (m ≤ 64) → Lawful (to_record bs k n m)
 to_record_lem c bs k n m circuit limit chain =
-    let w = when_some (is_circuit c) c bs circuit in
+    let w = then_some_is (is_circuit c) c bs circuit in
     record {
       bytes = bs;
       lawful = subst (λ x. is_circuit x ≡ true) w.1 w.0;
@@ -56,7 +51,7 @@ of_fields_lem c k l h r e =
     let q = given_some (kind_of_one k) (λ x. given (limit_of l) (λ n. given (chain_of h) (λ m. Some (to_record p.0 x n m)))) r p.2 in
     let s = given_some (limit_of l) (λ n. given (chain_of h) (λ m. Some (to_record p.0 q.0 n m))) r q.2 in
     let t = given_some (chain_of h) (λ m. Some (to_record p.0 q.0 s.0 m)) r s.2 in
-    subst Lawful (same_some (to_record p.0 q.0 s.0 t.0) r t.2) (to_record_lem c p.0 q.0 s.0 t.0 p.1 (limit_in l s.0 s.1) (chain_in h t.0 t.1))
+    subst Lawful (same_some (to_record p.0 q.0 s.0 t.0) r t.2) (to_record_lem c p.0 q.0 s.0 t.0 p.1 (number_in 7 0 2000000 l s.0 s.1).1 (number_in 2 1 64 h t.0 t.1))
 
 of_parts_lem : (ps : List (List ℕ)) (r : Record) → of_parts ps ≡ Some r → Lawful r
 of_parts_lem [] r e = let z : ◌≡◌ {A = ℕ} 0 1 = cc in absurd (omega arith)

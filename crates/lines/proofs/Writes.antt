@@ -1,6 +1,7 @@
 -- Lawful lines written out read back.
 use Rattle.std.proofs.Common.{◌≡◌, ℕ, zero, suc, ◌+◌, ◌-◌, ◌*◌, ◌/◌, ◌%◌, ◌^◌, ◌<◌, ◌≤◌, Bool, true, ◌&&◌, eqb, leb, List, [], ◌∷◌, ◌++◌, map, length, replicate, Some, None, sym, refl, ap, ◌∙◌, subst, append_assoc, arith, length-append}
-use Rattle.std.specs.List.{AllByRecursion}
+use Rattle.std.specs.Bool.{then_some}
+use Rattle.std.specs.List.{AllByRecursion, list_all, onto_first}
 use Rattle.std.proofs.lemmas.Fmt.{decimal_by_steps, decimal_nonempty}
 use Rattle.std.proofs.ByRecursion.{All-append, All-push}
 use Rattle.std.proofs.lemmas.Bool.{and_parts, and_from, cond-true, cond-false, ne_eqb, le-leb}
@@ -10,9 +11,9 @@ use Rattle.lines.specs.declared.kind.Kind.TheVariants.{Dipole, Quadrupole, Sextu
 use Rattle.lines.specs.declared.record.Record.{Record}
 use Rattle.lines.specs.Kinds.{letter_of}
 use Rattle.lines.specs.Laws.{padded, Says, file_of, ReadsBack}
-use Rattle.lines.specs.Layout.{every, given, when, circuit_byte, is_circuit, circuit_of, kind_of_one, digit_of, value_from, number_of, limit_of, chain_of, to_record, of_parts, record_of}
+use Rattle.lines.specs.Layout.{given, circuit_byte, is_circuit, circuit_of, kind_of_one, digit_of, value_from, number_of, number_within, limit_of, chain_of, to_record, of_parts, record_of}
 use Rattle.texts.specs.Numbers.{digits}
-use Rattle.lines.specs.Parts.{onto, parts}
+use Rattle.lines.specs.Parts.{parts}
 use Rattle.lines.specs.Reading.{Reading, with, at_row, reading}
 use Rattle.lines.proofs.Agrees.{parts-append, reading_line}
 use Rattle.lines.proofs.Cuts.{parts_some}
@@ -27,7 +28,7 @@ Lacks b xs = AllByRecursion (λ x. x ≡ b → ⊥) xs
 
 parts_lacks : (b : ℕ) (xs : List ℕ) → Lacks b xs → parts b xs ≡ xs ∷ []
 parts_lacks b [] h = refl
-parts_lacks b (x ∷ xs) h = cond-false (eqb x b) ([] ∷ parts b xs) (onto (x ∷ []) (parts b xs)) (ne_eqb x b h.0) ∙ ap (onto (x ∷ [])) (parts_lacks b xs h.1)
+parts_lacks b (x ∷ xs) h = cond-false (eqb x b) ([] ∷ parts b xs) (onto_first x (parts b xs)) (ne_eqb x b h.0) ∙ ap (onto_first x) (parts_lacks b xs h.1)
 
 cut_lacks : (b : ℕ) (xs ys : List ℕ) → Lacks b xs → parts b (xs ++ (b ∷ ys)) ≡ xs ∷ parts b ys
 cut_lacks b xs ys h = parts-append b xs ys ∙ ap (λ ps. ps ++ parts b ys) (parts_lacks b xs h)
@@ -46,7 +47,7 @@ digit_of_lem : (d : ℕ) → d ≤ 9 → digit_of (48 + d) ≡ Some d
 digit_of_lem d h =
     let low : leb 48 (48 + d) ≡ true = le-leb 48 (48 + d) (omega arith) in
     let high : leb (48 + d) 57 ≡ true = le-leb (48 + d) 57 (omega arith) in
-    ap (λ t. when t (48 + d - 48)) (and_from (leb 48 (48 + d)) (leb (48 + d) 57) low high) ∙ ap Some (omega arith)
+    ap (λ t. then_some t (48 + d - 48)) (and_from (leb 48 (48 + d)) (leb (48 + d) 57) low high) ∙ ap Some (omega arith)
 
 value_push : (v : ℕ) (ds : List ℕ) (w d : ℕ) → value_from v ds ≡ Some w → d ≤ 9 → value_from v (ds ++ ((48 + d) ∷ [])) ≡ Some (w * 10 + d)
 value_push v [] w d e h = let same : v ≡ w = cc in ap (λ o. given o (λ x. Some (v * 10 + x))) (digit_of_lem d h) ∙ ap (λ x. Some (x * 10 + d)) same
@@ -84,19 +85,24 @@ number_of_lem most zeros n h short =
     let few : leb (length text) most ≡ true = le-leb (length text) most short in
     cond-true (leb 1 (length text) && leb (length text) most) (value_from 0 text) None (and_from (leb 1 (length text)) (leb (length text) most) some few) ∙ (padded_read zeros n h).0
 
+number_within_lem : (most least greatest zeros n : ℕ) → n < 2 ^ 64 → length (padded zeros n) ≤ most → least ≤ n → n ≤ greatest → number_within most least greatest (padded zeros n) ≡ Some n
+number_within_lem most least greatest zeros n h short low high =
+    ap (λ o. given o (λ m. then_some (leb least m && leb m greatest) m)) (number_of_lem most zeros n h short)
+    ∙ ap (λ t. then_some t n) (and_from (leb least n) (leb n greatest) (le-leb least n low) (le-leb n greatest high))
+
 -- ---- fields
 
-every_from : (p : ℕ → Bool) (low : ℕ) → ((x : ℕ) → p x ≡ true → low ≤ x) → (xs : List ℕ) → every p xs ≡ true → From low xs
+every_from : (p : ℕ → Bool) (low : ℕ) → ((x : ℕ) → p x ≡ true → low ≤ x) → (xs : List ℕ) → list_all p xs ≡ true → From low xs
 every_from p low h [] e = tt
-every_from p low h (x ∷ xs) e = let q = and_parts (p x) (every p xs) e in (h x q.0, every_from p low h xs q.1)
+every_from p low h (x ∷ xs) e = let q = and_parts (p x) (list_all p xs) e in (h x q.0, every_from p low h xs q.1)
 
 circuit_byte_lem : (x : ℕ) → circuit_byte x ≡ true → 45 ≤ x
 circuit_byte_lem x h = grind (arith, nat_tests)
 
 circuit_from : (bs : List ℕ) → is_circuit bs ≡ true → From 45 bs
 circuit_from bs h =
-    let p = and_parts (leb 1 (length bs)) (leb (length bs) 12 && every circuit_byte bs) h in
-    let q = and_parts (leb (length bs) 12) (every circuit_byte bs) p.1 in
+    let p = and_parts (leb 1 (length bs)) (leb (length bs) 12 && list_all circuit_byte bs) h in
+    let q = and_parts (leb (length bs) 12) (list_all circuit_byte bs) p.1 in
     every_from circuit_byte 45 circuit_byte_lem bs q.1
 
 kind_of_lem : (k : Kind) → kind_of_one (letter_of k ∷ []) ≡ Some k
@@ -143,16 +149,14 @@ module _ (line : List ℕ) (r : Record) (s : Says line r) where
       ∙ ap (λ ps. limit_text ∷ ps) (parts_lacks 9 chain_text (lacks_from 48 9 chain_text (omega arith) chain_from))))
 
   limit_of_lem : limit_of limit_text ≡ Some r.limit
-  limit_of_lem = ap (λ o. given o (λ n. when (leb n 2000000) n)) (number_of_lem 7 s.zeros r.limit limit_small s.limit_digits) ∙ ap (λ t. when t r.limit) (le-leb r.limit 2000000 s.limit)
+  limit_of_lem = number_within_lem 7 0 2000000 s.zeros r.limit limit_small s.limit_digits (omega arith) s.limit
 
   chain_of_lem : chain_of chain_text ≡ Some r.chain
-  chain_of_lem =
-      ap (λ o. given o (λ n. when (leb 1 n && leb n 64) n)) (number_of_lem 2 s.more_zeros r.chain chain_small s.chain_digits)
-      ∙ ap (λ t. when t r.chain) (and_from (leb 1 r.chain) (leb r.chain 64) (le-leb 1 r.chain s.chain_some) (le-leb r.chain 64 s.chain))
+  chain_of_lem = number_within_lem 2 1 64 s.more_zeros r.chain chain_small s.chain_digits s.chain_some s.chain
 
   pub line_reads : record_of line ≡ Some r
   line_reads =
-      let circuit : circuit_of s.circuit ≡ Some s.circuit = ap (λ t. when t s.circuit) s.lawful in
+      let circuit : circuit_of s.circuit ≡ Some s.circuit = ap (λ t. then_some t s.circuit) s.lawful in
       ap of_parts line_parts
       ∙ ap (λ o. given o (λ bs. given (kind_of_one (letter_of r.kind ∷ [])) (λ k. given (limit_of limit_text) (λ n. given (chain_of chain_text) (λ m. Some (to_record bs k n m)))))) circuit
       ∙ ap (λ o. given o (λ k. given (limit_of limit_text) (λ n. given (chain_of chain_text) (λ m. Some (to_record s.circuit k n m))))) (kind_of_lem r.kind)

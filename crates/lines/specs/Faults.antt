@@ -1,9 +1,9 @@
 -- The refusals of the line reader: a number, a layer and a place for each case. Assumes nothing.
 --     line_fault f      of a fault of the line reader, whose place is the line, counted from 1
 use Rattle.std.specs.Prelude.{ℕ}
-use Rattle.lines.specs.declared.faults.Fault.{Fault}
-use Rattle.lines.specs.declared.faults.Layer.{Layer}
-use Rattle.lines.specs.declared.faults.Layer.TheVariants.{LineReader}
+use Rattle.fault.specs.declared.Fault.{Fault}
+use Rattle.fault.specs.declared.Layer.{Layer}
+use Rattle.fault.specs.declared.Layer.TheVariants.{LineReader}
 use Rattle.lines.specs.declared.faults.LineFault.{LineFault}
 use Rattle.lines.specs.declared.faults.LineFault.TheVariants.{NotARecord, NoRow}
 

@@ -1,10 +1,12 @@
 -- The layout of a line, from its bytes to its record. Assumes nothing.
---     every p bs                  p holds of each byte of bs
 --     circuit_of, kind_of_one, limit_of, chain_of      what a field says, if it is lawful
 --     filled bs                   twelve bytes: those of bs, and zero bytes behind them
 --     record_of line              the record that the line says, if it is one in the layout
 --     Lawful r                    r is inside the limits of the layout
 use Rattle.std.specs.Prelude.{◌≡◌, ℕ, ◌+◌, ◌-◌, ◌*◌, ◌≤◌, Bool, true, false, cond, ◌&&◌, ◌||◌, List, [], ◌∷◌, ◌++◌, length, take, replicate, Some, None, Option, ◌==◌, nat_le}
+use Rattle.std.specs.Bool.{then_some}
+use Rattle.std.specs.List.{list_all}
+use Rattle.std.specs.Option.{option_and_then}
 use Rattle.std.proofs.Common.{arith, length-take, length-append}
 use Rattle.std.proofs.lemmas.List.{length-replicate}
 use Rattle.lines.specs.declared.kind.Kind.{Kind}
@@ -12,18 +14,9 @@ use Rattle.lines.specs.declared.record.Record.{Record}
 use Rattle.lines.specs.Kinds.{kind_of}
 use Rattle.lines.specs.Parts.{parts}
 
-abbrev pub every : (ℕ → Bool) → List ℕ → Bool
-every p [] = true
-every p (x ∷ xs) = p x && every p xs
-
 -- the value that is there, handed on
 abbrev pub given : {A B : Type 0} → Option A → (A → Option B) → Option B
-given None f = None
-given (Some x) f = f x
-
-abbrev pub when : {A : Type 0} → Bool → A → Option A
-when true x = Some x
-when false x = None
+given o f = option_and_then f o
 
 -- ---- the fields
 
@@ -33,10 +26,10 @@ circuit_byte b = (nat_le 65 b && nat_le b 90) || ((nat_le 48 b && nat_le b 57) |
 
 -- one to twelve such bytes
 abbrev pub is_circuit : List ℕ → Bool
-is_circuit bs = nat_le 1 (length bs) && (nat_le (length bs) 12 && every circuit_byte bs)
+is_circuit bs = nat_le 1 (length bs) && (nat_le (length bs) 12 && list_all circuit_byte bs)
 
 abbrev pub circuit_of : List ℕ → Option (List ℕ)
-circuit_of bs = when (is_circuit bs) bs
+circuit_of bs = then_some (is_circuit bs) bs
 
 -- one byte, a letter
 abbrev pub kind_of_one : List ℕ → Option Kind
@@ -46,7 +39,7 @@ kind_of_one (b ∷ (x ∷ xs)) = None
 
 -- 0 to 9
 abbrev pub digit_of : ℕ → Option ℕ
-digit_of b = when (nat_le 48 b && nat_le b 57) (b - 48)
+digit_of b = then_some (nat_le 48 b && nat_le b 57) (b - 48)
 
 -- the value of digits behind others of the value v; leading zeros are allowed
 abbrev pub value_from : ℕ → List ℕ → Option ℕ
@@ -57,13 +50,17 @@ value_from v (b ∷ bs) = given (digit_of b) (λ d. value_from (v * 10 + d) bs)
 abbrev pub number_of : ℕ → List ℕ → Option ℕ
 number_of most bs = cond (nat_le 1 (length bs) && nat_le (length bs) most) (value_from 0 bs) None
 
+-- `least` to `most`, in one to `digits` digits
+abbrev pub number_within : ℕ → ℕ → ℕ → List ℕ → Option ℕ
+number_within digits least most bs = given (number_of digits bs) (λ n. then_some (nat_le least n && nat_le n most) n)
+
 -- 0 to 2,000,000, in one to seven digits
 abbrev pub limit_of : List ℕ → Option ℕ
-limit_of bs = given (number_of 7 bs) (λ n. when (nat_le n 2000000) n)
+limit_of bs = number_within 7 0 2000000 bs
 
 -- 1 to 64, in one or two digits
 abbrev pub chain_of : List ℕ → Option ℕ
-chain_of bs = given (number_of 2 bs) (λ n. when (nat_le 1 n && nat_le n 64) n)
+chain_of bs = number_within 2 1 64 bs
 
 -- ---- the record
 

@@ -1,22 +1,8 @@
-//! What the line reader refuses. A fault has a number, a layer and a place.
+//! What the line reader refuses, and the fault that it tells.
 ghost use Rattle.std.specs.Prelude.{◌≡◌};
 ghost use Rattle.lines.specs.Faults.{line_fault};
 
-/// Where a refusal is checked.
-#[derive(Clone, Copy, Debug, PartialEq, Eq)]
-pub enum Layer {
-    Programs,
-    LineReader,
-    Store,
-}
-
-/// What every refusal tells.
-#[derive(Clone, Copy, Debug, PartialEq, Eq)]
-pub struct Fault {
-    pub number: u8,
-    pub layer: Layer,
-    pub place: usize,
-}
+use fault::{Fault, Layer};
 
 /// Why the line reader stops at a line, which is counted from 1.
 #[derive(Clone, Copy, Debug, PartialEq, Eq)]
@@ -27,13 +13,12 @@ pub enum LineFault {
     NoRow { line: usize },
 }
 
-impl LineFault {
-    /// Number, layer and place.
-    pub fn told(self) -> Fault
-        ensures { result ≡ line_fault self }
-    {
+impl From<LineFault> for Fault {
+    ghost from_gives = { λ e f. f ≡ line_fault e };
+
+    fn from(e: LineFault) -> Fault {
         let layer = Layer::LineReader;
-        match self {
+        match e {
             LineFault::NotARecord { line } => Fault {
                 number: 1,
                 layer,

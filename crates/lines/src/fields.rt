@@ -1,7 +1,8 @@
 //! The fields of a line, each a part of the file's bytes with its place.
-ghost use Rattle.std.specs.Prelude.{◌≡◌, ◌+◌, ◌^◌, ◌<◌, [], ◌∷◌, length, MatchOption};
+ghost use Rattle.std.specs.Prelude.{◌≡◌, ◌+◌, ◌^◌, ◌<◌, ◌==◌, [], ◌∷◌, length, MatchOption};
+ghost use Rattle.std.specs.List.{position};
 ghost use Rattle.lines.specs.Fields.{FourAt, NotFour};
-ghost use Rattle.lines.specs.Parts.{parts, FirstAt, CutAt};
+ghost use Rattle.lines.specs.Parts.{parts, CutAt};
 
 const TAB: u8 = 9;
 
@@ -30,15 +31,10 @@ pub struct Fields<'a> {
 }
 
 /// Where the byte `b` first stands.
-pub(crate) fn find_byte(bytes: &[u8], b: u8) -> Option<usize>
-    ensures { MatchOption result (parts b bytes.now ≡ bytes.now ∷ []) (λ n. FirstAt b bytes.now n) }
+fn find_byte(bytes: &[u8], b: u8) -> Option<usize>
+    ensures { result ≡ position (λ x. x == b) bytes.now }
 {
-    for (i, x) in bytes.iter().enumerate() {
-        if *x == b {
-            return Some(i);
-        }
-    }
-    None
+    bytes.iter().position(|x| *x == b)
 }
 
 /// What stands before the first byte `b`, and what stands behind it.
@@ -57,7 +53,7 @@ pub(crate) fn split_line<'a>(line: &'a [u8], place: usize) -> Option<Fields<'a>>
     let (circuit, after_circuit) = cut_at(line, TAB)?;
     let (kind, after_kind) = cut_at(after_circuit, TAB)?;
     let (limit, chain) = cut_at(after_kind, TAB)?;
-    if let Some(_) = find_byte(chain, TAB) {
+    if let Some(_) = cut_at(chain, TAB) {
         return None;
     }
     let kind_place = place + circuit.len() + 1;

@@ -1,9 +1,9 @@
 //! The kinds of magnet, each with its letter.
 ghost use Rattle.std.specs.Prelude.{◌≡◌};
-ghost use Rattle.lines.specs.Kinds.{letter_of, kind_of};
+ghost use Rattle.lines.specs.Kinds.{letter_of, IsKindOf};
 
-/// A kind of magnet.
-#[derive(Clone, Copy, Debug, PartialEq, Eq)]
+/// A kind of magnet. The kinds are ordered as their letters are.
+#[derive(Clone, Copy, Debug, PartialEq, Eq, PartialOrd, Ord)]
 pub enum Kind {
     Dipole,
     Quadrupole,
@@ -11,25 +11,33 @@ pub enum Kind {
     Steerer,
 }
 
-impl Kind {
-    /// The kind with this letter.
-    pub fn from_letter(letter: u8) -> Option<Kind>
-        ensures { result ≡ kind_of letter }
-    {
+/// A byte that is no kind's letter.
+#[derive(Clone, Copy, Debug, PartialEq, Eq)]
+pub struct UnknownLetter(pub u8);
+
+/// The kind with this letter.
+impl TryFrom<u8> for Kind {
+    type Error = UnknownLetter;
+
+    ghost try_from_gives = { IsKindOf };
+
+    fn try_from(letter: u8) -> Result<Kind, UnknownLetter> {
         match char::from(letter) {
-            'D' => Some(Kind::Dipole),
-            'Q' => Some(Kind::Quadrupole),
-            'S' => Some(Kind::Sextupole),
-            'T' => Some(Kind::Steerer),
-            _ => None,
+            'D' => Ok(Kind::Dipole),
+            'Q' => Ok(Kind::Quadrupole),
+            'S' => Ok(Kind::Sextupole),
+            'T' => Ok(Kind::Steerer),
+            _ => Err(UnknownLetter(letter)),
         }
     }
+}
 
-    /// The kind's letter.
-    pub fn letter(self) -> char
-        ensures { result ≡ letter_of self }
-    {
-        match self {
+/// The kind's letter.
+impl From<Kind> for char {
+    ghost from_gives = { λ k c. c ≡ letter_of k };
+
+    fn from(kind: Kind) -> char {
+        match kind {
             Kind::Dipole => 'D',
             Kind::Quadrupole => 'Q',
             Kind::Sextupole => 'S',

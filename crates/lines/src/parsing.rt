@@ -1,8 +1,9 @@
 //! From the fields of a line to its record.
 ghost use Rattle.std.specs.Prelude.{◌≡◌, ◌≤◌, true, length, IfSome};
+ghost use Rattle.std.specs.List.{list_all};
 ghost use Rattle.std.specs.Option.{option_map};
 ghost use Rattle.lines.specs.Fields.{circuit_in, kind_in, digits_in, read_fields};
-ghost use Rattle.lines.specs.Layout.{circuit_byte, circuit_of, is_circuit, every, filled as filled_up, digit_of, value_from, number_of, limit_of, chain_of};
+ghost use Rattle.lines.specs.Layout.{circuit_byte, circuit_of, is_circuit, filled as filled_up, digit_of, value_from, number_of, number_within};
 
 use crate::fields::{Field, Fields};
 use crate::kind::Kind;
@@ -10,29 +11,22 @@ use crate::record::Record;
 
 /// The greatest limit, in milliamperes.
 const MOST_LIMIT: u32 = 2_000_000;
+const LIMIT_DIGITS: usize = 7;
 
 /// The greatest chain.
 const MOST_CHAIN: u32 = 64;
+const CHAIN_DIGITS: usize = 2;
 
 fn is_circuit_byte(b: u8) -> bool
     ensures { result ≡ circuit_byte b }
 {
-    match b {
-        b'A'..=b'Z' => true,
-        b'0'..=b'9' => true,
-        _ => b == b'-',
-    }
+    matches!(b, b'A'..=b'Z' | b'0'..=b'9' | b'-')
 }
 
 fn all_circuit_bytes(bytes: &[u8]) -> bool
-    ensures { result ≡ every circuit_byte bytes.now }
+    ensures { result ≡ list_all circuit_byte bytes.now }
 {
-    for b in bytes {
-        if !is_circuit_byte(*b) {
-            return false;
-        }
-    }
-    true
+    bytes.iter().all(|b| is_circuit_byte(*b))
 }
 
 /// Whether the bytes are a circuit: one to twelve lawful bytes.
@@ -40,10 +34,7 @@ fn is_circuit(bytes: &[u8]) -> bool
     ensures value { result ≡ is_circuit bytes.now }
     ensures short { result ≡ true → length bytes.now ≤ 12 }
 {
-    if bytes.len() < 1 || bytes.len() > 12 {
-        return false;
-    }
-    all_circuit_bytes(bytes)
+    (1..=12).contains(&bytes.len()) && all_circuit_bytes(bytes)
 }
 
 /// The bytes, with zero bytes behind them.
@@ -82,7 +73,7 @@ fn kind_in(field: Field) -> Option<Kind>
     ensures { result ≡ kind_in field.entry }
 {
     match field {
-        Field::Kind([letter]) => Kind::from_letter(*letter),
+        Field::Kind([letter]) => Kind::try_from(*letter).ok(),
         _ => None,
     }
 }
@@ -92,10 +83,7 @@ fn digit(b: u8) -> Option<u32>
     ensures value { result ≡ digit_of b }
     ensures small { IfSome result (λ d. d ≤ 9) }
 {
-    match b {
-        b'0'..=b'9' => Some(u32::from(b - b'0')),
-        _ => None,
-    }
+    char::from(b).to_digit(10)
 }
 
 /// The value of at most nine digits.
@@ -116,40 +104,23 @@ fn number_of(bytes: &[u8], most: usize) -> Option<u32>
     requires { most ≤ 9 }
     ensures { result ≡ number_of most bytes.now }
 {
-    if bytes.len() < 1 || bytes.len() > most {
-        return None;
-    }
-    digits_value(bytes)
-}
-
-/// The limit that a field says: 0 to 2,000,000 in one to seven digits.
-fn limit_in(field: Field) -> Option<u32>
-    ensures { result ≡ digits_in limit_of field.entry }
-{
-    let Field::Digits(bytes) = field else {
-        return None;
-    };
-    let limit = number_of(bytes, 7)?;
-    if limit <= MOST_LIMIT {
-        Some(limit)
+    if (1..=most).contains(&bytes.len()) {
+        digits_value(bytes)
     } else {
         None
     }
 }
 
-/// The chain that a field says: 1 to 64 in one or two digits.
-fn chain_in(field: Field) -> Option<u8>
-    ensures { result ≡ digits_in chain_of field.entry }
+/// The number from `least` to `most` that a field of one to `digits` digits says.
+fn number_in(field: Field, digits: usize, least: u32, most: u32) -> Option<u32>
+    requires { digits ≤ 9 }
+    ensures value { result ≡ digits_in (number_within digits least most) field.entry }
+    ensures within { IfSome result (λ n. n ≤ most) }
 {
     let Field::Digits(bytes) = field else {
         return None;
     };
-    let chain = number_of(bytes, 2)?;
-    if chain >= 1 && chain <= MOST_CHAIN {
-        Some(chain as u8)
-    } else {
-        None
-    }
+    number_of(bytes, digits).filter(|n| (least..=most).contains(n))
 }
 
 /// The record that the fields say, if each is lawful.
@@ -158,8 +129,8 @@ pub(crate) fn record_of(fields: Fields) -> Option<Record>
 {
     let circuit = circuit_in(fields.circuit.field)?;
     let kind = kind_in(fields.kind.field)?;
-    let limit = limit_in(fields.limit.field)?;
-    let chain = chain_in(fields.chain.field)?;
+    let limit = number_in(fields.limit.field, LIMIT_DIGITS, 0, MOST_LIMIT)?;
+    let chain = number_in(fields.chain.field, CHAIN_DIGITS, 1, MOST_CHAIN)? as u8;
     Some(Record {
         circuit,
         kind,

@@ -54,15 +54,14 @@ impl<'a> LineReader<'a> {
         if self.place >= self.file.len() {
             return Ok(None);
         }
+        let refusal = LineFault::NotARecord {
+            line: self.lines + 1,
+        };
         let Some(line) = self.line() else {
-            return Err(LineFault::NotARecord {
-                line: self.lines + 1,
-            });
+            return Err(refusal);
         };
         let Some(record) = record_in(line, self.place) else {
-            return Err(LineFault::NotARecord {
-                line: self.lines + 1,
-            });
+            return Err(refusal);
         };
         Ok(Some(ReadLine {
             record,
@@ -77,10 +76,8 @@ impl<'a> LineReader<'a> {
         ensures place { self.new.place ≡ self.old.place + size }
         ensures lines { self.new.lines ≡ self.old.lines + 1 }
     {
-        let place = self.place + size;
-        let lines = self.lines + 1;
-        self.place = place;
-        self.lines = lines;
+        self.place += size;
+        self.lines += 1;
     }
 
     /// The record of the next line, and none at the end of the file. At a refusal the reader stays at the line's start.

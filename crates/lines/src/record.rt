@@ -1,10 +1,10 @@
 //! The line record: one circuit of a sector.
-ghost use Rattle.std.specs.Prelude.{◌≡◌, ◌&&◌, length, replicate, Decides};
+ghost use Rattle.std.specs.Prelude.{◌≡◌, length, replicate};
 
 use crate::kind::Kind;
 
 /// What a line says of a circuit. Any contents go; the reader gives only lawful ones.
-#[derive(Clone, Copy, Debug)]
+#[derive(Clone, Copy, Debug, PartialEq, Eq, PartialOrd, Ord)]
 pub struct Record {
     /// The circuit's bytes, filled up with zero bytes.
     pub circuit: [u8; 12],
@@ -27,30 +27,5 @@ impl Record {
             limit: 0,
             chain: 0,
         }
-    }
-}
-
-fn all_four(a: bool, b: bool, c: bool, d: bool) -> bool
-    ensures { result ≡ (a && (b && (c && d))) }
-{
-    a && b && c && d
-}
-
-impl PartialEq for Record {
-    ghost use Rattle.lines.specs.Records.{same_fields, same_fields_laws};
-
-    ghost eq = { same_fields };
-
-    ghost laws = { same_fields_laws };
-
-    fn eq(&self, other: &Record) -> bool
-        ensures answers { result ≡ same_fields self.now other.now }
-        ensures decides { Decides result (self.now ≡ other.now) }
-    {
-        let circuit = self.circuit == other.circuit;
-        let kind = self.kind == other.kind;
-        let limit = self.limit == other.limit;
-        let chain = self.chain == other.chain;
-        all_four(circuit, kind, limit, chain)
     }
 }

@@ -28,8 +28,8 @@ impl Key for Record {
     fn compare(&self, other: &Record) -> Ordering {
         let chains = self.chain.cmp(&other.chain);
         let limits = self.limit.cmp(&other.limit).then(chains);
-        let own = self.kind.letter() as u8;
-        let others = other.kind.letter() as u8;
+        let own = char::from(self.kind) as u8;
+        let others = char::from(other.kind) as u8;
         let kinds = own.cmp(&others).then(limits);
         self.circuit.cmp(&other.circuit).then(kinds)
     }
@@ -42,7 +42,7 @@ impl Key for Record {
         if i < 12 {
             self.circuit[i]
         } else if i == 12 {
-            self.kind.letter() as u8
+            char::from(self.kind) as u8
         } else if i < 17 {
             byte_of(self.limit, i - 13)
         } else if i == 17 {

@@ -40,6 +40,7 @@ impl From<DeliveredFile> for char {
     }
 }
 
+// Not printed by `Display`: that may fail, and its contract tells only what an `Ok` has written; a report never fails.
 /// Puts the number behind the line.
 fn push_number(line: &mut ReportLine, n: u64)
     requires { length (text_of line.old) + 20 ≤ 64 }

@@ -4,7 +4,7 @@ use Rattle.lines.proofs.fields.split_line.Goals as goal
 
 pub returns-in-Some : goal.returns-in-Some
 returns-in-Some c =
-    let more = two_parts _ _ _ c.in-Some.ensures in
+    let more = two_parts _ _ _ _ c.in-Some.ensures in
     let one = c.in_ok-circuit.ensures in
     let two = c.in_ok-kind.ensures in
     let three = c.in_ok-limit.ensures in

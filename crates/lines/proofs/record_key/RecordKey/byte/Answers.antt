@@ -6,7 +6,7 @@ pub returns-then-i-lt12 : goal.returns-then-i-lt12
 returns-then-i-lt12 c = byte_front c.args.self.now c.args.i c.if-i-lt12.true
 
 pub returns-then-i-eq12 : goal.returns-then-i-eq12
-returns-then-i-eq12 c = byte_letter c.args.self.now c.args.i _ c.if-i-eq12.true c.letter.ensures
+returns-then-i-eq12 c = byte_letter c.args.self.now c.args.i _ c.if-i-eq12.true c.from.ensures
 
 pub returns-then-i-lt17 : goal.returns-then-i-lt17
 returns-then-i-lt17 c =
