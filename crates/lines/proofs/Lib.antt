@@ -1,6 +1,7 @@
 pub mod Agrees
 pub mod Bytes
 pub mod Cuts
+pub mod Equals
 pub mod Lawfuls
 pub mod Lefts
 pub mod Rows

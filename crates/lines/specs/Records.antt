@@ -5,16 +5,12 @@ use mathlib.Core.HLevel.{is_prop→PathP}
 use denote.Struct.Props.{props}
 use Rattle.std.specs.Option.{option_map}
 use Rattle.std.proofs.lemmas.Bool.Decides.{Decides-and, Decides-like}
-use denote.Enum.Bare.{same_true, true_same}
-use Rattle.std.specs.Bool.{one_answer}
 use Rattle.std.specs.Cmp.{unsigned_Decides}
 use Rattle.std.specs.Cmp.Lexicographic.{pointwise, pointwise_decides}
 use Rattle.lines.specs.declared.kind.Kind.{Kind}
 use Rattle.lines.specs.declared.kind.Kind.TheVariants.{Dipole, Quadrupole, Sextupole, Steerer}
 use Rattle.lines.specs.Kinds.{letter_of, kind_of}
 use Rattle.lines.specs.declared.record.Record.{Record}
-use Rattle.lines.specs.contracts.kind.Kind.{the_type}
-use Rattle.lines.specs.contracts.record.RecordPartialEq.TheImpl.{ghosts}
 use Rattle.lines.specs.Layout.{given, filled, to_record}
 
 pub same_record : (x y : Record) → x.circuit ≡ y.circuit → x.kind ≡ y.kind → x.limit ≡ y.limit → x.chain ≡ y.chain → x ≡ y
@@ -66,15 +62,3 @@ same_fields_decides x y =
     (letters_decide x.kind y.kind)
     (unsigned_Decides x.limit y.limit)
     (unsigned_Decides x.chain y.chain)
-
--- `==` is derived: it answers true exactly for equal records
-pub equal_decides : (x y : Record) → Decides (ghosts.eq x y) (x ≡ y)
-equal_decides x y =
-    same_decides x y _ _ _ _
-    (pointwise_decides unsigned_Decides x.circuit y.circuit)
-    (same_true the_type tt x.kind y.kind, true_same the_type x.kind y.kind)
-    (unsigned_Decides x.limit y.limit)
-    (unsigned_Decides x.chain y.chain)
-
-pub equal_answers : (x y : Record) → ghosts.eq x y ≡ same_fields x y
-equal_answers x y = one_answer (ghosts.eq x y) (same_fields x y) (equal_decides x y) (same_fields_decides x y)

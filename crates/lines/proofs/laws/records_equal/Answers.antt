@@ -1,4 +1,4 @@
-use Rattle.lines.specs.Records.{equal_decides, equal_answers}
+use Rattle.lines.proofs.Equals.{equal_decides, equal_answers}
 use Rattle.lines.proofs.laws.records_equal.Goals as goal
 
 pub returns : goal.returns
