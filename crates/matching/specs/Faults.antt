@@ -1,7 +1,7 @@
 -- The refusals of a delivered file: a number, a layer and a place for each case. Assumes nothing.
 --     file_fault f      of a fault of a delivered file
-use Rattle.lines.specs.declared.faults.Fault.{Fault}
-use Rattle.lines.specs.declared.faults.Layer.TheVariants.{Programs, Store}
+use Rattle.fault.specs.declared.Fault.{Fault}
+use Rattle.fault.specs.declared.Layer.TheVariants.{Programs, Store}
 use Rattle.lines.specs.Faults.{fault, line_fault}
 use Rattle.matching.specs.declared.faults.FileFault.{FileFault}
 use Rattle.matching.specs.declared.faults.FileFault.TheVariants.{Unreadable, TooLong, Line, Empty}

@@ -50,12 +50,12 @@ pub record Delivered (file : Option (List ℕ)) (rows rows' : List Record) (r : 
 abbrev pub Compared : List Record → List Record → Outcome → Type 0
 Compared xs ys (Same n) = (xs ≡ ys) × (n ≡ length xs)
 Compared xs ys (Differ n) = (xs ≢ ys) × ((m : ℕ) × (n ≡ m + 1) × Common xs ys m)
-Compared xs ys (Refused file number place) = ⊥
+Compared xs ys (Refused file fault) = ⊥
 
 -- ---- two files
 
 abbrev pub refused_with : DeliveredFile → FileFault → Outcome
-refused_with file e = Refused file (file_fault e).number (file_fault e).place
+refused_with file e = Refused file (file_fault e)
 
 -- the magnet list is read first
 abbrev pub OutcomeOf : Result (List Record) FileFault → Result (List Record) FileFault → Outcome → Type 0

@@ -3,7 +3,8 @@ ghost use Rattle.std.specs.Prelude.{◌≡◌};
 ghost use Rattle.matching.specs.Faults.{file_fault};
 ghost use Rattle.matching.specs.declared.faults.FileFault.TheVariants.{Line};
 
-use lines::faults::{Fault, Layer, LineFault};
+use fault::{Fault, Layer};
+use lines::faults::LineFault;
 
 /// Why a delivered file gives no list.
 #[derive(Clone, Copy, Debug, PartialEq, Eq)]
@@ -26,12 +27,11 @@ impl From<LineFault> for FileFault {
     }
 }
 
-impl FileFault {
-    /// Number, layer and place.
-    pub fn told(self) -> Fault
-        ensures { result ≡ file_fault self }
-    {
-        match self {
+impl From<FileFault> for Fault {
+    ghost from_gives = { λ e f. f ≡ file_fault e };
+
+    fn from(e: FileFault) -> Fault {
+        match e {
             FileFault::Unreadable => Fault {
                 number: 13,
                 layer: Layer::Programs,
@@ -42,7 +42,7 @@ impl FileFault {
                 layer: Layer::Programs,
                 place: 0,
             },
-            FileFault::Line(fault) => fault.told(),
+            FileFault::Line(e) => Fault::from(e),
             FileFault::Empty => Fault {
                 number: 3,
                 layer: Layer::Store,

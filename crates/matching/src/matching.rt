@@ -5,6 +5,7 @@ ghost use Rattle.matching.specs.Matching.{Compared, Delivered, Matched, refused_
 
 use crate::comparing::common_prefix;
 use crate::faults::FileFault;
+use fault::Fault;
 use lines::reader::LineReader;
 use lines::record::Record;
 use texts::report::{DeliveredFile, Outcome};
@@ -17,18 +18,15 @@ pub fn read_delivery(file: Option<&[u8]>, rows: &mut [Record]) -> Result<usize, 
     ensures delivered { Delivered (option_map (λ x. x.now) file.entry) rows.old rows.new result }
     ensures within { IfOk result (λ n. n ≤ length rows.old) }
 {
-    let Some(bytes) = file else {
-        return Err(FileFault::Unreadable);
-    };
+    let bytes = file.ok_or(FileFault::Unreadable)?;
     if bytes.len() > MOST_BYTES {
         return Err(FileFault::TooLong);
     }
     let mut reader = LineReader::new(bytes);
-    let count = reader.read_rows(rows)?;
-    if count == 0 {
-        return Err(FileFault::Empty);
+    match reader.read_rows(rows)? {
+        0 => Err(FileFault::Empty),
+        count => Ok(count),
     }
-    Ok(count)
 }
 
 /// What comparing two lists gives.
@@ -46,11 +44,9 @@ fn compare(xs: &[Record], ys: &[Record]) -> Outcome
 fn refused(file: DeliveredFile, fault: FileFault) -> Outcome
     ensures { result ≡ refused_with file fault }
 {
-    let told = fault.told();
     Outcome::Refused {
         file,
-        number: told.number,
-        place: told.place,
+        fault: Fault::from(fault),
     }
 }
 
