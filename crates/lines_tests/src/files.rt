@@ -1,20 +1,18 @@
 //! Whole files: rows, refusals and where the reader stands.
+use fault::{Fault, Layer};
 use lines::faults::LineFault;
 use lines::reader::LineReader;
 use lines::record::Record;
 use matching::faults::FileFault;
 use matching::matching::{match_files, read_delivery};
+use std::array;
 use std::test::Fail;
 use texts::report::{DeliveredFile, Outcome};
 
 /// 129 lines of eight bytes each.
 fn many_lines() -> [u8; 1032] {
     let line = *b"A\tD\t0\t1\n";
-    let mut file = [0u8; 1032];
-    for i in 0..1032usize {
-        file[i] = line[i % 8];
-    }
-    file
+    array::from_fn(|i| line[i % 8])
 }
 
 #[test]
@@ -63,27 +61,22 @@ fn hands_out_fields(rt: HostRuntime) -> Result<(), Fail> {
     Ok(())
 }
 
-/// The bytes of a file, if it is there.
-fn read(file: &[u8], there: bool) -> Option<&[u8]> {
-    if there { Some(file) } else { None }
-}
-
 /// Two rows for a file.
-fn deliver(file: &[u8], there: bool) -> Result<usize, FileFault> {
+fn deliver(file: Option<&[u8]>) -> Result<usize, FileFault> {
     let mut rows = [Record::blank(); 2];
-    read_delivery(read(file, there), &mut rows)
+    read_delivery(file, &mut rows)
 }
 
 #[test]
 fn long_files(rt: HostRuntime) {
     let file = [10u8; 4097];
     assert_eq!(rt;
-        deliver(&file[0..4096], true),
+        deliver(Some(&file[0..4096])),
         Err(FileFault::Line(LineFault::NotARecord { line: 1 }))
     );
-    assert_eq!(rt; deliver(&file, true), Err(FileFault::TooLong));
-    assert_eq!(rt; deliver(&file[0..0], true), Err(FileFault::Empty));
-    assert_eq!(rt; deliver(&file, false), Err(FileFault::Unreadable));
+    assert_eq!(rt; deliver(Some(&file)), Err(FileFault::TooLong));
+    assert_eq!(rt; deliver(Some(&file[0..0])), Err(FileFault::Empty));
+    assert_eq!(rt; deliver(None), Err(FileFault::Unreadable));
 }
 
 /// Two rows for each file.
@@ -100,8 +93,11 @@ fn matches_files(rt: HostRuntime) {
     let chain = *b"A\tD\t0\t1\nB\tD\t7\t2\n";
     let refused = Outcome::Refused {
         file: DeliveredFile::Interlock,
-        number: 1,
-        place: 2,
+        fault: Fault {
+            number: 1,
+            layer: Layer::LineReader,
+            place: 2,
+        },
     };
     assert_eq!(rt; matched(&a, &zeros), Outcome::Same { lines: 2 });
     assert_eq!(rt; matched(&a, &chain), Outcome::Differ { line: 2 });
@@ -115,9 +111,12 @@ fn no_files(rt: HostRuntime) {
     let mut second = [Record::blank(); 2];
     let refused = Outcome::Refused {
         file: DeliveredFile::Magnets,
-        number: 13,
-        place: 0,
+        fault: Fault {
+            number: 13,
+            layer: Layer::Programs,
+            place: 0,
+        },
     };
-    let outcome = match_files(read(b"", false), read(b"", true), &mut first, &mut second);
+    let outcome = match_files(None, Some(b""), &mut first, &mut second);
     assert_eq!(rt; outcome, refused);
 }

@@ -1,4 +1,5 @@
 //! Numbers and reports.
+use fault::{Fault, Layer};
 use std::process::Abort;
 use std::test::Fail;
 use texts::numbers::write_number;
@@ -38,6 +39,17 @@ fn no_room(rt: HostRuntime) {
     assert_eq!(rt; out, [b'.'; 3]);
 }
 
+fn refused(file: DeliveredFile, number: u8, layer: Layer, place: usize) -> Outcome {
+    Outcome::Refused {
+        file,
+        fault: Fault {
+            number,
+            layer,
+            place,
+        },
+    }
+}
+
 #[test]
 fn reports(rt: HostRuntime) {
     let magnets = DeliveredFile::Magnets;
@@ -50,25 +62,16 @@ fn reports(rt: HostRuntime) {
         report(Outcome::Differ { line: 51 }).as_bytes(),
         b"differ\t51\n".as_slice()
     );
-    let first = Outcome::Refused {
-        file: magnets,
-        number: 1,
-        place: 7,
-    };
-    assert_eq!(rt; report(first).as_bytes(), b"refused\tM\t1\t7\n".as_slice());
-    let second = Outcome::Refused {
-        file: interlock,
-        number: 2,
-        place: 129,
-    };
     assert_eq!(rt;
-        report(second).as_bytes(),
+        report(refused(magnets, 1, Layer::LineReader, 7)).as_bytes(),
+        b"refused\tM\t1\t7\n".as_slice()
+    );
+    assert_eq!(rt;
+        report(refused(interlock, 2, Layer::LineReader, 129)).as_bytes(),
         b"refused\tI\t2\t129\n".as_slice()
     );
-    let ninth = Outcome::Refused {
-        file: interlock,
-        number: 9,
-        place: 4,
-    };
-    assert_eq!(rt; report(ninth).as_bytes(), b"refused\tI\t9\t0\n".as_slice());
+    assert_eq!(rt;
+        report(refused(interlock, 9, Layer::ElementDictionary, 4)).as_bytes(),
+        b"refused\tI\t9\t0\n".as_slice()
+    );
 }
