@@ -3,6 +3,7 @@ use Rattle.std.proofs.Common.{◌≡◌, ℕ, ◌+◌, ◌-◌, ◌<◌, ◌≤�
 use Rattle.std.proofs.lemmas.List.{take_rest, drop_all, drop-drop, drop_at, length_push}
 use Rattle.lines.specs.declared.faults.LineFault.TheVariants.{NotARecord}
 use Rattle.lines.specs.declared.fields.Fields.{Fields}
+use Rattle.lines.specs.declared.line.Line.{Line}
 use Rattle.lines.specs.declared.reader.LineReader.{LineReader}
 use Rattle.lines.specs.declared.reading.ReadLine.{ReadLine}
 use Rattle.lines.specs.declared.record.Record.{Record}
@@ -21,12 +22,14 @@ tail rd = take (length rd.file.now - rd.place) (rest rd)
 behind : (front back : List ℕ) (b : ℕ) → drop (length front + 1) (front ++ (b ∷ back)) ≡ back
 behind front back b = ap (drop (length front + 1)) (sym (append_assoc front (b ∷ []) back)) ∙ drop_at (front ++ (b ∷ [])) back (length front + 1) (length_push front b)
 
-pub leads : (rd : LineReader) (l back : List ℕ) → CutAt 10 (tail rd) l back → Leads rd l
-leads rd l back c =
+pub leads : (rd : LineReader) (line : Line) (back : List ℕ) → line.place ≡ rd.place → CutAt 10 (tail rd) line.bytes.now back → Leads rd line
+leads rd line back here c =
+    let l = line.bytes.now in
     let whole : rest rd ≡ l ++ (10 ∷ back) = sym (take_rest rd.file.now rd.place) ∙ c.whole in
     let after : back ≡ drop (rd.place + length l + 1) rd.file.now =
     sym (behind l back 10) ∙ ap (drop (length l + 1)) (sym whole) ∙ drop-drop (length l + 1) rd.place rd.file.now ∙ ap (λ n. drop n rd.file.now) (sym (add_assoc rd.place (length l) 1)) in
     record {
+      place = here;
       cut = ap (parts 10) (sym (take_rest rd.file.now rd.place)) ∙ c.cut ∙ ap (λ bs. l ∷ parts 10 bs) after;
       within = omega (arith, c.long, ap length (take_rest rd.file.now rd.place), length-drop rd.place rd.file.now);
     }
@@ -57,23 +60,23 @@ fields_from ps l (q ∷ qs) place None e h t =
     λ p x more d. let same : l ≡ p = cc in subst NotFour same t
 fields_from ps l (q ∷ qs) place (Some f) e h t = (l, q, qs, e, t)
 
-abbrev beyond : LineReader → List ℕ → List ℕ
-beyond rd l = drop (rd.place + length l + 1) rd.file.now
+abbrev beyond : LineReader → Line → List ℕ
+beyond rd l = drop (rd.place + length l.bytes.now + 1) rd.file.now
 
-pub next_leads : (rd : LineReader) (l : List ℕ) → Leads rd l → (o : Option Record) → o ≡ record_of l → next_of rd ≡ at_line (rd.lines + 1) l o
-next_leads rd l h o r = next_line (rd.lines + 1) (left rd) l (parts 10 (beyond rd l)) h.cut (parts_some 10 (beyond rd l)) o r
+pub next_leads : (rd : LineReader) (l : Line) → Leads rd l → (o : Option Record) → o ≡ record_of l.bytes.now → next_of rd ≡ at_line (rd.lines + 1) l.bytes.now o
+next_leads rd l h o r = next_line (rd.lines + 1) (left rd) l.bytes.now (parts 10 (beyond rd l)) h.cut (parts_some 10 (beyond rd l)) o r
 
-pub fields_leads : (rd : LineReader) (l : List ℕ) → Leads rd l → (r : Option Fields) → MatchOption r (NotFour l) (λ f. FourAt l rd.place f) → FieldsOf (left rd) rd.place r
-fields_leads rd l h r t = fields_from (left rd) l (parts 10 (beyond rd l)) rd.place r h.cut (parts_some 10 (beyond rd l)) t
+pub fields_leads : (rd : LineReader) (l : Line) → Leads rd l → (r : Option Fields) → MatchOption r (NotFour l.bytes.now) (λ f. FourAt l.bytes.now l.place f) → FieldsOf (left rd) rd.place r
+fields_leads rd l h r t = subst (λ p. FieldsOf (left rd) p r) h.place (fields_from (left rd) l.bytes.now (parts 10 (beyond rd l)) l.place r h.cut (parts_some 10 (beyond rd l)) t)
 
-pub gives : (rd : LineReader) (l : List ℕ) (line : ReadLine) → Leads rd l → Some line.record ≡ record_of l → line.size ≡ length l + 1 → Gives rd line
+pub gives : (rd : LineReader) (l : Line) (line : ReadLine) → Leads rd l → Some line.record ≡ record_of l.bytes.now → line.size ≡ length l.bytes.now + 1 → Gives rd line
 gives rd l line h says size =
-    let past : rd.place + length l + 1 ≡ rd.place + line.size = omega arith in
+    let past : rd.place + length l.bytes.now + 1 ≡ rd.place + line.size = omega arith in
     record {
-      bytes = l;
+      bytes = l.bytes.now;
       says = sym says;
       size = size;
-      cut = h.cut ∙ ap (λ n. l ∷ parts 10 (drop n rd.file.now)) past;
+      cut = h.cut ∙ ap (λ n. l.bytes.now ∷ parts 10 (drop n rd.file.now)) past;
       within = omega (arith, h.within);
       next = next_leads rd l h (Some line.record) says ∙ ap (λ n. Ok (Some (line.record, n))) (sym size);
     }

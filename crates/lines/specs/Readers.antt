@@ -6,6 +6,7 @@
 use Rattle.std.specs.Prelude.{◌≡◌, ℕ, ◌+◌, ◌≤◌, List, ◌∷◌, ◌++◌, length, drop, Some, None, Ok, Err, Option, Result}
 use Rattle.lines.specs.declared.faults.LineFault.{LineFault}
 use Rattle.lines.specs.declared.fields.Fields.{Fields}
+use Rattle.lines.specs.declared.line.Line.{Line}
 use Rattle.lines.specs.declared.reader.LineReader.{LineReader}
 use Rattle.lines.specs.declared.record.Record.{Record}
 use Rattle.lines.specs.Fields.{FourAt, NotFour}
@@ -19,9 +20,10 @@ abbrev pub left : LineReader → List (List ℕ)
 left rd = parts 10 (rest rd)
 
 -- the line l leads what is left
-pub record Leads (rd : LineReader) (l : List ℕ) : Type 0 where
-  pub cut : left rd ≡ l ∷ parts 10 (drop (rd.place + length l + 1) rd.file.now)
-  pub within : rd.place + length l + 1 ≤ length rd.file.now
+pub record Leads (rd : LineReader) (l : Line) : Type 0 where
+  pub place : l.place ≡ rd.place
+  pub cut : left rd ≡ l.bytes.now ∷ parts 10 (drop (rd.place + length l.bytes.now + 1) rd.file.now)
+  pub within : rd.place + length l.bytes.now + 1 ≤ length rd.file.now
 
 abbrev pub next_of : LineReader → Result (Option (Record × ℕ)) LineFault
 next_of rd = next (rd.lines + 1) (left rd)

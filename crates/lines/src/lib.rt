@@ -5,6 +5,7 @@ pub mod faults;
 pub mod fields;
 pub mod kind;
 pub mod laws;
+pub(crate) mod line;
 pub(crate) mod parsing;
 pub mod reader;
 pub mod reading;

@@ -1,13 +1,13 @@
 //! Reading a file line by line.
-ghost use Rattle.std.specs.Prelude.{◌≡◌, ◌+◌, ◌^◌, ◌<◌, ◌≤◌, [], ◌∷◌, length, IfSome, IfOk, MatchOption};
+ghost use Rattle.std.specs.Prelude.{◌≡◌, ◌+◌, ◌≤◌, [], ◌∷◌, length, IfSome, IfOk, MatchOption};
 ghost use Rattle.std.specs.List.{AllByRecursion};
-ghost use Rattle.lines.specs.Layout.{Lawful, record_of};
+ghost use Rattle.lines.specs.Layout.{Lawful};
 ghost use Rattle.lines.specs.Readers.{left, rest, Leads, FieldsOf, Stepped, ReadAll, reading_of};
 ghost use Rattle.lines.specs.Peeks.{Peeked};
 
 use crate::faults::LineFault;
-use crate::fields::{Fields, cut_at, split_line};
-use crate::parsing::record_of;
+use crate::fields::{Fields, cut_at};
+use crate::line::Line;
 use crate::reader::LineReader;
 use crate::record::Record;
 
@@ -20,31 +20,24 @@ struct ReadLine {
     size: usize,
 }
 
-/// The record that a line says, which begins at `place`.
-fn record_in(line: &[u8], place: usize) -> Option<Record>
-    requires { place + length line.now < 2 ^ 64 }
-    ensures { result ≡ record_of line.now }
-{
-    let fields = split_line(line, place)?;
-    record_of(fields)
-}
-
 impl<'a> LineReader<'a> {
     /// The line at which the reader stands, without its end.
-    fn line(&self) -> Option<&'a [u8]>
-        ensures { MatchOption result (left self.now ≡ rest self.now ∷ []) (λ l. Leads self.now l.now) }
+    fn line(&self) -> Option<Line<'a>>
+        ensures { MatchOption result (left self.now ≡ rest self.now ∷ []) (Leads self.now) }
     {
         let file = self.file;
-        let (line, _) = cut_at(&file[self.place..], LINE_END)?;
-        Some(line)
+        let (bytes, _) = cut_at(&file[self.place..], LINE_END)?;
+        Some(Line {
+            bytes,
+            place: self.place,
+        })
     }
 
     /// The fields of the line at which the reader stands; none where there is no line, or not four fields.
     pub fn fields(&self) -> Option<Fields<'a>>
         ensures { FieldsOf (left self.now) self.now.place result }
     {
-        let line = self.line()?;
-        split_line(line, self.place)
+        self.line()?.fields()
     }
 
     /// What the next line says; nothing moves.
@@ -60,12 +53,12 @@ impl<'a> LineReader<'a> {
         let Some(line) = self.line() else {
             return Err(refusal);
         };
-        let Some(record) = record_in(line, self.place) else {
+        let Some(record) = line.to_record() else {
             return Err(refusal);
         };
         Ok(Some(ReadLine {
             record,
-            size: line.len() + 1,
+            size: line.bytes.len() + 1,
         }))
     }
 

@@ -10,8 +10,8 @@ returns-then-self c = ap (next (c.args.self.now.lines + 1)) (left_none c.args.se
 pub returns-in_default : goal.returns-in_default
 returns-in_default c = next_unended (c.args.self.now.lines + 1) (left c.args.self.now) _ c.in_default.ensures (rest_some c.args.self.now c.if-self.false)
 
-pub returns-in_default-record_in : goal.returns-in_default-record_in
-returns-in_default-record_in c = next_leads c.args.self.now _ c.in-Some.ensures None (sym c.in_default-record_in.is ∙ c.record_in.ensures)
+pub returns-in_default-to_record : goal.returns-in_default-to_record
+returns-in_default-to_record c = next_leads c.args.self.now _ c.in-Some.ensures None (sym c.in_default-to_record.is ∙ c.to_record.ensures)
 
 pub returns : goal.returns
-returns c = gives c.args.self.now _ _ c.in-Some.ensures c.in-Some-record_in.ensures refl
+returns c = gives c.args.self.now _ _ c.in-Some.ensures c.in-Some-to_record.ensures refl

@@ -1,6 +1,6 @@
 use Rattle.std.proofs.Common.{length, ap, arith}
 use Rattle.lines.proofs.Cuts.{two_parts}
-use Rattle.lines.proofs.fields.split_line.Goals as goal
+use Rattle.lines.proofs.line.Line.fields.Goals as goal
 
 pub returns-in-Some : goal.returns-in-Some
 returns-in-Some c =
