@@ -1,7 +1,7 @@
 -- The circuit filled up.
-use Rattle.std.proofs.Common.{◌≡◌, ℕ, ◌+◌, ◌-◌, ◌<◌, ◌≤◌, Bool, true, false, ◌&&◌, List, ◌++◌, length, get_or, take, drop, replicate, sym, ap, ◌∙◌, arith}
+use Rattle.std.proofs.Common.{◌≡◌, ℕ, ◌+◌, ◌-◌, ◌≤◌, List, ◌++◌, length, take, drop, replicate, sym, ap, ◌∙◌, arith}
 use lib.Seq.{take-append-add}
-use Rattle.std.proofs.lemmas.List.{at_drop_more, at_drop_all, take-replicate, drop-replicate}
+use Rattle.std.proofs.lemmas.List.{take-replicate, drop-replicate}
 use Rattle.lines.specs.Layout.{filled}
 
 -- the bytes, and behind them what a row of zero bytes has from there on

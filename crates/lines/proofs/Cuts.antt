@@ -1,9 +1,9 @@
 -- Lists cut at a byte.
-use Rattle.std.proofs.Common.{suc, ltb, inl, inr, true, false, cond, not, Option, None, Some, MatchOption, ◌≡◌, ℕ, ◌+◌, ◌<◌, ◌≤◌, eqb, List, [], ◌∷◌, ◌++◌, length, get_or, take, drop, sym, refl, ap, ◌∙◌, append_assoc, append-nil, arith, length-append}
-use Rattle.std.proofs.lemmas.List.{at_drop_more, at_drop_all, take_more, take_all, take-append-drop, drop_more}
+use Rattle.std.proofs.Common.{suc, ltb, inl, inr, true, false, cond, not, None, Some, ◌≡◌, ℕ, ◌+◌, ◌<◌, ◌≤◌, eqb, List, [], ◌∷◌, ◌++◌, length, take, drop, sym, refl, ap, ◌∙◌, arith, length-append}
+use Rattle.std.proofs.lemmas.List.{take-append-drop, drop_more}
 use Rattle.std.proofs.lemmas.List.Quantifiers.{position-Some}
 use Rattle.std.proofs.lemmas.Option.{cond_some, none-some}
-use Rattle.std.proofs.lemmas.Bool.{cases_lt, lt-ltb, eqb-true, cond-true, cond-false, cond_both, eq-eqb, ne_eqb}
+use Rattle.std.proofs.lemmas.Bool.{cases_lt, lt-ltb, eqb-true, cond-true, cond_both}
 use Rattle.std.specs.List.{onto_first, position, position_or_len}
 use Rattle.lines.specs.Parts.{parts, CutAt}
 

@@ -11,10 +11,12 @@ use crate::record::Record;
 
 /// The greatest limit, in milliamperes.
 const MOST_LIMIT: u32 = 2_000_000;
+
 const LIMIT_DIGITS: usize = 7;
 
 /// The greatest chain.
 const MOST_CHAIN: u32 = 64;
+
 const CHAIN_DIGITS: usize = 2;
 
 fn is_circuit_byte(b: u8) -> bool
