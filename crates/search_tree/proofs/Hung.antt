@@ -1,40 +1,43 @@
 -- The search tree in the rows, as the code has them. Assumes nothing.
-use Rattle.std.proofs.Common.{◌≡◌, ℕ, suc, ◌+◌, ◌<◌, ◌≤◌, ◌⊎◌, List, [], ◌∷◌, ◌++◌, length, get_or, drop, set, Some, Ordering, Equal, sym, refl, ap, ◌∙◌, subst, inl, inr, ⊎_elim, add-one, arith}
+use Rattle.std.proofs.Common.{◌≡◌, ℕ, suc, ◌+◌, ◌<◌, ◌≤◌, Ok, Err, Result, ◌⊎◌, List, [], ◌∷◌, ◌++◌, length, get_or, drop, set, Some, Ordering, Equal, sym, refl, ap, ◌∙◌, subst, inl, inr, ⊎_elim, add-one, arith}
 use Rattle.std.specs.List.{slice_get}
 use Rattle.std.proofs.lemmas.List.{length-set, drop-set-lt}
 use Rattle.std.proofs.lemmas.Bool.{cases_lt, cases_eq}
 use Rattle.dictionary.specs.Rows.{column}
 use Rattle.search_tree.specs.Tree.{Links, root, walk, found, turns, sought, keys, lefts, rights, Linked, InOrder, ends}
 use Rattle.search_tree.specs.declared.row.TreeRow.{TreeRow}
-use Rattle.search_tree.specs.declared.row.Spot.{Spot}
-use Rattle.search_tree.specs.declared.row.Spot.TheVariants.{Here, Root, Left, Right}
+use Rattle.dictionary.specs.declared.rows.Slot.{Slot}
+use Rattle.dictionary.specs.declared.rows.Slot.TheVariants.{Root, Left, Right}
 use Rattle.search_tree.proofs.Grows.{Empty, ends_empty, Grown, links_grown, reached_grown}
 use Rattle.dictionary.specs.Facts.{held_long}
 use Rattle.dictionary.proofs.Held.{held_more, held_kept, column_same, column_other, column_kept}
 
--- where a row can be hung
-abbrev pub Slot : {K : Type 0} → List (TreeRow K) → ℕ → Spot → Type 0
-Slot rows n (Here i) = Unit {0}
-Slot rows n Root = n ≡ 0
-Slot rows n (Left p) = (p < n) × (lefts rows p ≡ 0)
-Slot rows n (Right p) = (p < n) × (rights rows p ≡ 0)
+-- the slot has no link yet
+abbrev pub Free : {K : Type 0} → List (TreeRow K) → ℕ → Slot → Type 0
+Free rows n Root = n ≡ 0
+Free rows n (Left p) = (p < n) × (lefts rows p ≡ 0)
+Free rows n (Right p) = (p < n) × (rights rows p ≡ 0)
 
 module _ {K : Type 0} (order : K → K → Ordering) (rows : List (TreeRow K)) (n : ℕ) (k : K) (long : n ≤ length rows) (links : Linked n rows) where
   abbrev turn : ℕ → Ordering
   turn = turns order (keys rows n) k
 
-  slot_from : (t : Spot) → Empty turn (lefts rows) (rights rows) n links t → Slot rows n t
-  slot_from (Here i) h = tt
-  slot_from Root h = absurd h
-  slot_from (Left p) h = h
-  slot_from (Right p) h = h
+  abbrev At : Result ℕ Slot → Type 0
+  At (Ok i) = Unit {0}
+  At (Err t) = Free rows n t
 
-  pub slot : (t : Spot) → t ≡ ends order n rows k → Slot rows n t
-  slot t e =
-      subst (Slot rows n) (ap (λ m. walk turn (lefts rows) (rights rows) m Root (root m)) (sym (held_long (λ w. w.key) rows n long)) ∙ sym e)
+  free_from : (r : Result ℕ Slot) → Empty turn (lefts rows) (rights rows) n links r → At r
+  free_from (Ok i) h = tt
+  free_from (Err Root) h = absurd h
+  free_from (Err (Left p)) h = h
+  free_from (Err (Right p)) h = h
+
+  pub free : (t : Slot) → Err t ≡ ends order n rows k → Free rows n t
+  free t e =
+      subst At (ap (λ m. walk turn (lefts rows) (rights rows) m Root (root m)) (sym (held_long (λ w. w.key) rows n long)) ∙ sym e)
       (⊎_elim
-      (λ (q : 0 < n). subst (λ m. Slot rows n (walk turn (lefts rows) (rights rows) n Root m)) (let one : 1 ≡ root n = omega arith in one) (slot_from _ (ends_empty turn (lefts rows) (rights rows) n links n Root 0 q (omega arith))))
-      (λ (q : n ≤ 0). subst (λ m. Slot rows n (walk turn (lefts rows) (rights rows) n Root m)) (let none : 0 ≡ root n = omega arith in none) (let z : n ≡ 0 = omega arith in z))
+      (λ (q : 0 < n). subst (λ m. At (walk turn (lefts rows) (rights rows) n Root m)) (let one : 1 ≡ root n = omega arith in one) (free_from _ (ends_empty turn (lefts rows) (rights rows) n links n Root 0 q (omega arith))))
+      (λ (q : n ≤ 0). subst (λ m. At (walk turn (lefts rows) (rights rows) n Root m)) (let none : 0 ≡ root n = omega arith in none) (let z : n ≡ 0 = omega arith in z))
       (cases_lt 0 n))
 
 -- what is to be shown of the rows with one more, for k
@@ -58,8 +61,8 @@ module _ {K : Type 0} (order : K → K → Ordering) (rows : List (TreeRow K)) (
   before : (i : ℕ) → i < n → i ≡ n → ⊥
   before i h e = omega arith
 
-  post : (rows' : List (TreeRow K)) (t : Spot) → t ≡ ends order n rows k → found t ≡ 0 → Grown n (lefts rows) (rights rows) (lefts rows') (rights rows') t → keys rows' (n + 1) ≡ keys rows n ++ k ∷ [] → drop (n + 1) rows' ≡ drop (n + 1) rows → Hung order rows n k rows'
-  post rows' t e none grown is rest = record {
+  post : (rows' : List (TreeRow K)) (t : Slot) → Err t ≡ ends order n rows k → Grown n (lefts rows) (rights rows) (lefts rows') (rights rows') t → keys rows' (n + 1) ≡ keys rows n ++ k ∷ [] → drop (n + 1) rows' ≡ drop (n + 1) rows → Hung order rows n k rows'
+  post rows' t e grown is rest = record {
     linked = subst (λ m. Linked m rows') (sym (add-one n)) (links_grown n _ _ _ _ t grown links);
     held = is;
     ordered = λ reached i y.
@@ -67,7 +70,7 @@ module _ {K : Type 0} (order : K → K → Ordering) (rows : List (TreeRow K)) (
         (reached_grown order (keys rows n) k itself (lefts rows) (rights rows) (lefts rows') (rights rows') t
         (subst (λ m. Grown m (lefts rows) (rights rows) (lefts rows') (rights rows') t) (sym n_long) grown)
         (subst (λ m. Links m (lefts rows) (rights rows)) (sym n_long) links)
-        none (sym e) reached i y);
+        (sym e) reached i y);
     rest = rest;
   }
 
@@ -77,10 +80,10 @@ module _ {K : Type 0} (order : K → K → Ordering) (rows : List (TreeRow K)) (
   longer_rest : drop (n + 1) longer ≡ drop (n + 1) rows
   longer_rest = drop-set-lt (n + 1) rows n fresh (omega arith)
 
-  pub hung_root : Root ≡ ends order n rows k → Hung order rows n k longer
+  pub hung_root : Err Root ≡ ends order n rows k → Hung order rows n k longer
   hung_root e =
-      let empty : n ≡ 0 = slot order rows n k (omega arith) links Root e in
-      post longer Root e refl
+      let empty : n ≡ 0 = free order rows n k (omega arith) links Root e in
+      post longer Root e
       (record {
         left_is = λ i h. absurd (omega arith);
         right_is = λ i h. absurd (omega arith);
@@ -124,30 +127,30 @@ module _ {K : Type 0} (order : K → K → Ordering) (rows : List (TreeRow K)) (
         written_new : column f edited n ≡ 0
         written_new = column_other f longer p n v (λ e. absurd (omega (arith, free.0))) ∙ column_same f rows n fresh long ∙ none
 
-    pub hung_left : Left p ≡ ends order n rows k → v.left ≡ n + 1 → v.right ≡ (get_or longer p d).right → Hung order rows n k edited
+    pub hung_left : Err (Left p) ≡ ends order n rows k → v.left ≡ n + 1 → v.right ≡ (get_or longer p d).right → Hung order rows n k edited
     hung_left e link same-right =
-        let free : (p < n) × (lefts rows p ≡ 0) = slot order rows n k (omega arith) links (Left p) e in
-        post edited (Left p) e refl
+        let empty : (p < n) × (lefts rows p ≡ 0) = free order rows n k (omega arith) links (Left p) e in
+        post edited (Left p) e
         (record {
-          left_is = written_old (λ w. w.left) refl free link;
+          left_is = written_old (λ w. w.left) refl empty link;
           right_is = λ i h. inl (kept_old (λ w. w.right) refl same-right i h);
-          left_new = written_new (λ w. w.left) refl free link;
+          left_new = written_new (λ w. w.left) refl empty link;
           right_new = kept_new (λ w. w.right) refl same-right;
-          left_hung = λ i h t. let ip : i ≡ p = cc in ap (lefts edited) ip ∙ here (λ w. w.left) refl free link;
+          left_hung = λ i h t. let ip : i ≡ p = cc in ap (lefts edited) ip ∙ here (λ w. w.left) refl empty link;
           right_hung = λ i h t. let z : ◌≡◌ {A = ℕ} 0 1 = cc in absurd (omega arith);
         })
-        edited_keys (edited_rest free.0)
+        edited_keys (edited_rest empty.0)
 
-    pub hung_right : Right p ≡ ends order n rows k → v.right ≡ n + 1 → v.left ≡ (get_or longer p d).left → Hung order rows n k edited
+    pub hung_right : Err (Right p) ≡ ends order n rows k → v.right ≡ n + 1 → v.left ≡ (get_or longer p d).left → Hung order rows n k edited
     hung_right e link same_left =
-        let free : (p < n) × (rights rows p ≡ 0) = slot order rows n k (omega arith) links (Right p) e in
-        post edited (Right p) e refl
+        let empty : (p < n) × (rights rows p ≡ 0) = free order rows n k (omega arith) links (Right p) e in
+        post edited (Right p) e
         (record {
           left_is = λ i h. inl (kept_old (λ w. w.left) refl same_left i h);
-          right_is = written_old (λ w. w.right) refl free link;
+          right_is = written_old (λ w. w.right) refl empty link;
           left_new = kept_new (λ w. w.left) refl same_left;
-          right_new = written_new (λ w. w.right) refl free link;
+          right_new = written_new (λ w. w.right) refl empty link;
           left_hung = λ i h t. let z : ◌≡◌ {A = ℕ} 0 1 = cc in absurd (omega arith);
-          right_hung = λ i h t. let ip : i ≡ p = cc in ap (rights edited) ip ∙ here (λ w. w.right) refl free link;
+          right_hung = λ i h t. let ip : i ≡ p = cc in ap (rights edited) ip ∙ here (λ w. w.right) refl empty link;
         })
-        edited_keys (edited_rest free.0)
+        edited_keys (edited_rest empty.0)

@@ -1,48 +1,47 @@
 -- The walk through a search tree, step by step. Assumes nothing.
-use Rattle.std.proofs.Common.{◌≡◌, ℕ, zero, suc, ◌+◌, ◌-◌, ◌*◌, ◌<◌, ◌≤◌, min, List, length, get_or, take, Ordering, Less, Equal, Greater, sym, refl, ap, ◌∙◌, arith}
+use Rattle.std.proofs.Common.{◌≡◌, ℕ, zero, suc, ◌+◌, ◌-◌, ◌*◌, ◌<◌, ◌≤◌, Ok, Err, Result, min, List, length, get_or, take, Ordering, Less, Equal, Greater, sym, ap, ◌∙◌, arith}
 use Rattle.std.proofs.lemmas.List.{get_or-take}
 use Rattle.std.proofs.lemmas.Bool.Decides.{nat_tests}
-use Rattle.search_tree.specs.Tree.{root, pick, walk, found, turns, keys, lefts, rights, Linked, ends}
+use Rattle.search_tree.specs.Tree.{root, pick, walk, turns, keys, lefts, rights, Linked, ends}
 use Rattle.search_tree.specs.declared.row.TreeRow.{TreeRow}
-use Rattle.search_tree.specs.declared.row.Spot.{Spot}
-use Rattle.search_tree.specs.declared.row.Spot.TheVariants.{Here, Root, Left, Right}
+use Rattle.dictionary.specs.declared.rows.Slot.{Slot}
+use Rattle.dictionary.specs.declared.rows.Slot.TheVariants.{Root, Left, Right}
 use Rattle.dictionary.specs.Facts.{held_long}
 use Rattle.dictionary.proofs.Held.{held_of, column_at}
 
 module _ (turn : ℕ → Ordering) (left right : ℕ → ℕ) (n : ℕ) where
   -- the walk that is left ends where the whole walk does, and so many steps are enough for it
-  pub record Rest (spot : Spot) (at : ℕ) : Type 0 where
+  pub record Rest (slot : Slot) (at : ℕ) : Type 0 where
     pub steps : ℕ
     pub within : at ≤ n
     pub enough : 0 < at → n + 1 ≤ steps + at
-    pub none : found spot ≡ 0
-    pub ends : walk turn left right steps spot at ≡ walk turn left right n Root (root n)
+    pub ends : walk turn left right steps slot at ≡ walk turn left right n Root (root n)
 
   pub rest_start : (at : ℕ) → at ≡ root n → Rest Root at
-  rest_start at e = record { steps = n; within = omega arith; enough = λ h. omega arith; none = refl; ends = ap (λ m. walk turn left right n Root m) e }
+  rest_start at e = record { steps = n; within = omega arith; enough = λ h. omega arith; ends = ap (λ m. walk turn left right n Root m) e }
 
-  abbrev after : ℕ → ℕ → Spot
-  after steps i = pick (turn i) (walk turn left right steps (Left i) (left i)) (Here i) (walk turn left right steps (Right i) (right i))
+  abbrev after : ℕ → ℕ → Result ℕ Slot
+  after steps i = pick (turn i) (walk turn left right steps (Left i) (left i)) (Ok i) (walk turn left right steps (Right i) (right i))
 
   -- one step from row i, to the link l
-  pub rest_on : (spot : Spot) (at i : ℕ) (spot' : Spot) (l : ℕ) → at ≡ suc i → found spot' ≡ 0 → ((steps : ℕ) → after steps i ≡ walk turn left right steps spot' l) → l ≤ n → (0 < l → i + 1 < l) → Rest spot at → Rest spot' l
-  rest_on spot at i spot' l e none goes low later r =
-      elim r.steps as (λ m. n + 1 ≤ m + at → walk turn left right m spot at ≡ walk turn left right n Root (root n) → Rest spot' l) [
+  pub rest_on : (slot : Slot) (at i : ℕ) (slot' : Slot) (l : ℕ) → at ≡ suc i → ((steps : ℕ) → after steps i ≡ walk turn left right steps slot' l) → l ≤ n → (0 < l → i + 1 < l) → Rest slot at → Rest slot' l
+  rest_on slot at i slot' l e goes low later r =
+      elim r.steps as (λ m. n + 1 ≤ m + at → walk turn left right m slot at ≡ walk turn left right n Root (root n) → Rest slot' l) [
         | zero ↦ λ p w. absurd (omega (arith, r.within))
-        | suc m ↦ λ p w. record { steps = m; within = low; enough = λ q. omega (arith, later q); none = none; ends = sym (goes m) ∙ ap (λ k. walk turn left right (suc m) spot k) (sym e) ∙ w }
+        | suc m ↦ λ p w. record { steps = m; within = low; enough = λ q. omega (arith, later q); ends = sym (goes m) ∙ ap (λ k. walk turn left right (suc m) slot k) (sym e) ∙ w }
       ] (r.enough (omega arith)) r.ends
 
-  pub rest_here : (spot : Spot) (at i : ℕ) → at ≡ suc i → turn i ≡ Equal → Rest spot at → Here i ≡ walk turn left right n Root (root n)
-  rest_here spot at i e same r =
-      elim r.steps as (λ m. n + 1 ≤ m + at → walk turn left right m spot at ≡ walk turn left right n Root (root n) → Here i ≡ walk turn left right n Root (root n)) [
+  pub rest_here : (slot : Slot) (at i : ℕ) → at ≡ suc i → turn i ≡ Equal → Rest slot at → Ok i ≡ walk turn left right n Root (root n)
+  rest_here slot at i e same r =
+      elim r.steps as (λ m. n + 1 ≤ m + at → walk turn left right m slot at ≡ walk turn left right n Root (root n) → Ok i ≡ walk turn left right n Root (root n)) [
         | zero ↦ λ p w. absurd (omega (arith, r.within))
-        | suc m ↦ λ p w. sym (ap (λ o. pick o (walk turn left right m (Left i) (left i)) (Here i) (walk turn left right m (Right i) (right i))) same) ∙ ap (λ k. walk turn left right (suc m) spot k) (sym e) ∙ w
+        | suc m ↦ λ p w. sym (ap (λ o. pick o (walk turn left right m (Left i) (left i)) (Ok i) (walk turn left right m (Right i) (right i))) same) ∙ ap (λ k. walk turn left right (suc m) slot k) (sym e) ∙ w
       ] (r.enough (omega arith)) r.ends
 
 -- the same at rows: w is the row that was read, among those that hold keys
 module _ {K : Type 0} (order : K → K → Ordering) (rows : List (TreeRow K)) (n : ℕ) (k : K) (long : n ≤ length rows) (links : Linked n rows) where
-  abbrev pub Resting : Spot → ℕ → Type 0
-  Resting spot at = Rest (turns order (keys rows n) k) (lefts rows) (rights rows) n spot at
+  abbrev pub Resting : Slot → ℕ → Type 0
+  Resting slot at = Rest (turns order (keys rows n) k) (lefts rows) (rights rows) n slot at
 
   whole : walk (turns order (keys rows n) k) (lefts rows) (rights rows) n Root (root n) ≡ ends order n rows k
   whole = ap (λ m. walk (turns order (keys rows n) k) (lefts rows) (rights rows) m Root (root m)) (sym (held_long (λ w. w.key) rows n long))
@@ -51,7 +50,7 @@ module _ {K : Type 0} (order : K → K → Ordering) (rows : List (TreeRow K)) (
   abbrev pub to_go : ℕ → ℕ
   to_go at = min (n + 1 - at) (at * 16777217)
 
-  module _ (front : List (TreeRow K)) (held : front ≡ take n rows) (spot : Spot) (at : ℕ) (w : TreeRow K) (some : 0 < at) (read : w ≡ get_or front (at - 1) w) (r : Resting spot at) where
+  module _ (front : List (TreeRow K)) (held : front ≡ take n rows) (slot : Slot) (at : ℕ) (w : TreeRow K) (some : 0 < at) (read : w ≡ get_or front (at - 1) w) (r : Resting slot at) where
     is : w ≡ get_or rows (at - 1) w
     is = read ∙ ap (λ l. get_or l (at - 1) w) held ∙ get_or-take n rows (at - 1) w (omega (arith, r.within))
 
@@ -70,19 +69,19 @@ module _ {K : Type 0} (order : K → K → Ordering) (rows : List (TreeRow K)) (
     pub go_left : order k w.key ≡ Less → Resting (Left (at - 1)) w.left
     go_left less =
         let l = links (at - 1) (omega (arith, r.within)) in
-        rest_on _ _ _ n spot at (at - 1) (Left (at - 1)) w.left (omega arith) refl
-        (λ m. ap (λ o. pick o (walk (turns order (keys rows n) k) (lefts rows) (rights rows) m (Left (at - 1)) (lefts rows (at - 1))) (Here (at - 1)) (walk (turns order (keys rows n) k) (lefts rows) (rights rows) m (Right (at - 1)) (rights rows (at - 1)))) (turn_is ∙ less) ∙ ap (λ j. walk (turns order (keys rows n) k) (lefts rows) (rights rows) m (Left (at - 1)) j) left_is)
+        rest_on _ _ _ n slot at (at - 1) (Left (at - 1)) w.left (omega arith)
+        (λ m. ap (λ o. pick o (walk (turns order (keys rows n) k) (lefts rows) (rights rows) m (Left (at - 1)) (lefts rows (at - 1))) (Ok (at - 1)) (walk (turns order (keys rows n) k) (lefts rows) (rights rows) m (Right (at - 1)) (rights rows (at - 1)))) (turn_is ∙ less) ∙ ap (λ j. walk (turns order (keys rows n) k) (lefts rows) (rights rows) m (Left (at - 1)) j) left_is)
         (omega (arith, left_is)) (λ q. omega (arith, left_is, l.1 (omega (arith, left_is)))) r
 
     pub go_right : order k w.key ≡ Greater → Resting (Right (at - 1)) w.right
     go_right greater =
         let l = links (at - 1) (omega (arith, r.within)) in
-        rest_on _ _ _ n spot at (at - 1) (Right (at - 1)) w.right (omega arith) refl
-        (λ m. ap (λ o. pick o (walk (turns order (keys rows n) k) (lefts rows) (rights rows) m (Left (at - 1)) (lefts rows (at - 1))) (Here (at - 1)) (walk (turns order (keys rows n) k) (lefts rows) (rights rows) m (Right (at - 1)) (rights rows (at - 1)))) (turn_is ∙ greater) ∙ ap (λ j. walk (turns order (keys rows n) k) (lefts rows) (rights rows) m (Right (at - 1)) j) right_is)
+        rest_on _ _ _ n slot at (at - 1) (Right (at - 1)) w.right (omega arith)
+        (λ m. ap (λ o. pick o (walk (turns order (keys rows n) k) (lefts rows) (rights rows) m (Left (at - 1)) (lefts rows (at - 1))) (Ok (at - 1)) (walk (turns order (keys rows n) k) (lefts rows) (rights rows) m (Right (at - 1)) (rights rows (at - 1)))) (turn_is ∙ greater) ∙ ap (λ j. walk (turns order (keys rows n) k) (lefts rows) (rights rows) m (Right (at - 1)) j) right_is)
         (omega (arith, right_is)) (λ q. omega (arith, right_is, l.3 (omega (arith, right_is)))) r
 
-    pub stop_here : order k w.key ≡ Equal → Here (at - 1) ≡ ends order n rows k
-    stop_here same = rest_here _ _ _ n spot at (at - 1) (omega arith) (turn_is ∙ same) r ∙ whole
+    pub stop_here : order k w.key ≡ Equal → Ok (at - 1) ≡ ends order n rows k
+    stop_here same = rest_here _ _ _ n slot at (at - 1) (omega arith) (turn_is ∙ same) r ∙ whole
 
     pub falls_left : n ≤ 16777216 → to_go w.left < to_go at
     falls_left small = let e = left_is in let l = links (at - 1) (omega (arith, r.within)) in grind (arith, nat_tests)
@@ -90,5 +89,5 @@ module _ {K : Type 0} (order : K → K → Ordering) (rows : List (TreeRow K)) (
     pub falls_right : n ≤ 16777216 → to_go w.right < to_go at
     falls_right small = let e = right_is in let l = links (at - 1) (omega (arith, r.within)) in grind (arith, nat_tests)
 
-  pub stop_there : (spot : Spot) (at : ℕ) → at ≡ 0 → Resting spot at → spot ≡ ends order n rows k
-  stop_there spot at e r = sym (ap (λ m. walk (turns order (keys rows n) k) (lefts rows) (rights rows) r.steps spot m) e) ∙ r.ends ∙ whole
+  pub stop_there : (slot : Slot) (at : ℕ) → at ≡ 0 → Resting slot at → Err slot ≡ ends order n rows k
+  stop_there slot at e r = sym (ap (λ m. walk (turns order (keys rows n) k) (lefts rows) (rights rows) r.steps slot m) e) ∙ r.ends ∙ whole

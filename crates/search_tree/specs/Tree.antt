@@ -1,15 +1,15 @@
 -- A search tree over rows. A link is 0 for none, else the number of the row's key. Assumes nothing.
 --     Links      each link leads on to a later row
---     walk       where the walk for a key ends: at a row with the key, or where a row for it can be hung
+--     walk       where the walk for a key ends: at a row with the key, or at a slot where a row for it can be hung
 --     Reached    the walk for each key of the list ends at its row
-use Rattle.std.specs.Prelude.{◌≡◌, ℕ, zero, suc, ◌+◌, ◌<◌, ◌≤◌, min, List, map, length, Some, slice_index_or}
+use Rattle.std.specs.Prelude.{◌≡◌, ℕ, zero, suc, ◌+◌, ◌<◌, ◌≤◌, min, List, map, length, Some, Ok, Err, Result, slice_index_or}
 use Rattle.std.specs.declared.cmp.Ordering.TheVariants.{Less, Equal, Greater}
 use Rattle.std.specs.declared.cmp.Ordering.{Ordering}
 use Rattle.std.specs.List.{slice_get}
 use Rattle.dictionary.specs.Rows.{held, column}
+use Rattle.dictionary.specs.declared.rows.Slot.{Slot}
+use Rattle.dictionary.specs.declared.rows.Slot.TheVariants.{Root, Left, Right}
 use Rattle.search_tree.specs.declared.row.TreeRow.{TreeRow}
-use Rattle.search_tree.specs.declared.row.Spot.{Spot}
-use Rattle.search_tree.specs.declared.row.Spot.TheVariants.{Here, Root, Left, Right}
 
 -- each link leads on to a later row, among the n that are used
 abbrev pub Links : ℕ → (ℕ → ℕ) → (ℕ → ℕ) → Type 0
@@ -26,24 +26,23 @@ pick Greater less same more = more
 
 -- `turn i` is how the sought key stands to the key of row i
 module _ (turn : ℕ → Ordering) (left right : ℕ → ℕ) where
-  -- where the walk ends that is at the link, and came there from `spot`, in so many steps or fewer
-  abbrev pub walk : ℕ → Spot → ℕ → Spot
-  walk steps spot zero = spot
-  walk zero spot (suc i) = Root
-  walk (suc steps) spot (suc i) = pick (turn i) (walk steps (Left i) (left i)) (Here i) (walk steps (Right i) (right i))
+  -- where the walk ends that is at the link, and came there from the slot, in so many steps or fewer: at a row, or else
+  -- at a slot where a row can be hung
+  abbrev pub walk : ℕ → Slot → ℕ → Result ℕ Slot
+  walk steps slot zero = Err slot
+  walk zero slot (suc i) = Err Root
+  walk (suc steps) slot (suc i) = pick (turn i) (walk steps (Left i) (left i)) (Ok i) (walk steps (Right i) (right i))
 
 -- the number of the key that the walk found, or 0
-abbrev pub found : Spot → ℕ
-found (Here i) = suc i
-found Root = 0
-found (Left p) = 0
-found (Right p) = 0
+abbrev pub found : Result ℕ Slot → ℕ
+found (Ok i) = suc i
+found (Err _) = 0
 
 module _ {K : Type 0} (order : K → K → Ordering) (ks : List K) where
   abbrev pub turns : K → ℕ → Ordering
   turns k i = slice_index_or (map (order k) ks) i Equal
 
-  abbrev pub sought : (ℕ → ℕ) → (ℕ → ℕ) → K → Spot
+  abbrev pub sought : (ℕ → ℕ) → (ℕ → ℕ) → K → Result ℕ Slot
   sought left right k = walk (turns k) left right (length ks) Root (root (length ks))
 
   abbrev pub Reached : (ℕ → ℕ) → (ℕ → ℕ) → Type 0
@@ -66,5 +65,5 @@ module _ {K : Type 0} where
   abbrev pub InOrder : (K → K → Ordering) → ℕ → List (TreeRow K) → Type 0
   InOrder order n rows = Reached order (keys rows n) (lefts rows) (rights rows)
 
-  abbrev pub ends : (K → K → Ordering) → ℕ → List (TreeRow K) → K → Spot
+  abbrev pub ends : (K → K → Ordering) → ℕ → List (TreeRow K) → K → Result ℕ Slot
   ends order n rows k = sought order (keys rows n) (lefts rows) (rights rows) k

@@ -7,7 +7,7 @@ ghost use Rattle.dictionary.specs.Rows.{beyond};
 ghost use Rattle.search_tree.specs.TreeMeaning.{meaning_of, Sound, one_place};
 
 use crate::hang::hang;
-use crate::row::{Spot, TreeRow};
+use crate::row::TreeRow;
 use crate::tree::SearchTree;
 use dictionary::Dictionary;
 use dictionary::asks::one_more;
@@ -63,10 +63,7 @@ impl<'a, K: Key> Dictionary<K> for SearchTree<'a, K> {
         ensures lent { self.new.rows.ghost_name ≡ self.old.rows.ghost_name }
     {
         self.asks = one_more(self.asks);
-        match self.spot(k) {
-            Spot::Here(i) => Some(i + 1),
-            _ => None,
-        }
+        Some(self.walk(k).ok()? + 1)
     }
 
     fn name(&mut self, k: &K) -> Result<u32, Full>
@@ -75,17 +72,17 @@ impl<'a, K: Key> Dictionary<K> for SearchTree<'a, K> {
         ensures lent { self.new.rows.ghost_name ≡ self.old.rows.ghost_name }
     {
         self.asks = one_more(self.asks);
-        let used = self.used;
-        let spot = self.spot(k);
-        if let Spot::Here(i) = spot {
-            return Ok(i + 1);
-        }
-        if used < capacity_over(self.rows.len()) {
-            hang(self.rows, used, spot, k);
-            self.used = used + 1;
-            Ok(used as u32 + 1)
+        let slot = match self.walk(k) {
+            Ok(i) => return Ok(i + 1),
+            Err(slot) => slot,
+        };
+        let size = (*self).size();
+        if size < (*self).capacity() {
+            hang(self.rows, self.used, slot, k);
+            self.used += 1;
+            Ok(size + 1)
         } else {
-            Err(Full { size: used as u32 })
+            Err(Full { size })
         }
     }
 

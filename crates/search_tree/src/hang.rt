@@ -1,17 +1,17 @@
 // One key more in a search tree.
-ghost use Rattle.std.specs.Prelude.{◌≡◌, ◌+◌, ◌<◌, [], ◌∷◌, ◌++◌, length, drop};
-ghost use Rattle.search_tree.specs.Tree.{Linked, InOrder, ends, found, keys};
+ghost use Rattle.std.specs.Prelude.{◌≡◌, ◌+◌, ◌<◌, [], ◌∷◌, ◌++◌, length, drop, Err};
+ghost use Rattle.search_tree.specs.Tree.{Linked, InOrder, ends, keys};
 
-use crate::row::{Spot, TreeRow};
+use crate::row::TreeRow;
 use dictionary::key::Key;
+use dictionary::rows::Slot;
 
-/// Hangs a row for the key where its walk ended.
-pub(crate) fn hang<K: Key>(rows: &mut [TreeRow<K>], used: usize, spot: Spot, k: &K)
+/// Hangs a row for the key at the slot where its walk ended.
+pub(crate) fn hang<K: Key>(rows: &mut [TreeRow<K>], used: usize, slot: Slot, k: &K)
     requires long { used < length rows.old }
     requires small { used < 16777216 }
     requires links { Linked used rows.old }
-    requires spot { spot ≡ ends K.Key.order used rows.old k.now }
-    requires absent { found spot ≡ 0 }
+    requires slot { Err slot ≡ ends K.Key.order used rows.old k.now }
     ensures links { Linked (used + 1) rows.new }
     ensures keys { keys rows.new (used + 1) ≡ keys rows.old used ++ k.now ∷ [] }
     ensures ordered { InOrder K.Key.order used rows.old → InOrder K.Key.order (used + 1) rows.new }
@@ -23,14 +23,13 @@ pub(crate) fn hang<K: Key>(rows: &mut [TreeRow<K>], used: usize, spot: Spot, k: 
         right: 0,
     };
     let link = used as u32 + 1;
-    match spot {
-        Spot::Left(p) => {
+    match slot {
+        Slot::Left(p) => {
             rows[p as usize].left = link;
         }
-        Spot::Right(p) => {
+        Slot::Right(p) => {
             rows[p as usize].right = link;
         }
-        Spot::Root => {}
-        Spot::Here(_) => {}
+        Slot::Root => {}
     }
 }

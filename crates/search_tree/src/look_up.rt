@@ -2,9 +2,10 @@
 ghost use Rattle.std.specs.Prelude.{◌≡◌, ◌≤◌, take};
 ghost use Rattle.search_tree.specs.Tree.{ends, found};
 
-use crate::row::{Spot, TreeRow};
+use crate::row::TreeRow;
 use crate::tree::SearchTree;
 use dictionary::key::Key;
+use dictionary::rows::Slot;
 use std::cmp::Ordering;
 
 impl<'a, K: Key> SearchTree<'a, K> {
@@ -16,34 +17,23 @@ impl<'a, K: Key> SearchTree<'a, K> {
         &rows[..self.used]
     }
 
-    /// Where the walk for the key ends.
-    pub(crate) fn spot(&self, k: &K) -> Spot
+    /// Where the walk for the key ends: at its row, or at the slot where a row for it can be hung.
+    pub(crate) fn walk(&self, k: &K) -> Result<u32, Slot>
         ensures ends { result ≡ ends K.Key.order self.now.used self.now.rows.now k.now }
         ensures within { found result ≤ self.now.used }
     {
         let held = self.held();
-        let mut spot = Spot::Root;
-        let mut at: u32 = 0;
-        if self.used > 0 {
-            at = 1;
-        }
+        let mut slot = Slot::Root;
+        let mut at = self.used.min(1) as u32;
         while at != 0 {
             let i = at - 1;
             let row = &held[i as usize];
-            match k.cmp(&row.key) {
-                Ordering::Less => {
-                    spot = Spot::Left(i);
-                    at = row.left;
-                }
-                Ordering::Equal => {
-                    return Spot::Here(i);
-                }
-                Ordering::Greater => {
-                    spot = Spot::Right(i);
-                    at = row.right;
-                }
-            }
+            (slot, at) = match k.cmp(&row.key) {
+                Ordering::Less => (Slot::Left(i), row.left),
+                Ordering::Equal => return Ok(i),
+                Ordering::Greater => (Slot::Right(i), row.right),
+            };
         }
-        spot
+        Err(slot)
     }
 }

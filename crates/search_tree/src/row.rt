@@ -1,4 +1,4 @@
-// The rows of a search tree, and the places in it.
+// The rows of a search tree.
 ghost use Rattle.std.specs.Prelude.{◌≡◌};
 
 use dictionary::key::Key;
@@ -31,13 +31,4 @@ impl<K: Key> Row<K> for TreeRow<K> {
     fn key(&self) -> K {
         self.key
     }
-}
-
-/// Where a walk ends: at the row with the key, or where a row for it can be hung. Rows count from 0 here.
-#[derive(Clone, Copy)]
-pub(crate) enum Spot {
-    Here(u32),
-    Root,
-    Left(u32),
-    Right(u32),
 }

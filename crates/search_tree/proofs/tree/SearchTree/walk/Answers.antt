@@ -1,7 +1,7 @@
 use Rattle.std.proofs.Common.{◌∙◌, sym, arith}
 use Rattle.dictionary.specs.Facts.{within_rows}
 use Rattle.search_tree.proofs.Walks.{go_left, go_right, stop_here, falls_left, falls_right}
-use Rattle.search_tree.proofs.tree.SearchTree.spot.Goals as goal
+use Rattle.search_tree.proofs.tree.SearchTree.walk.Goals as goal
 
 pub loop-at-smaller-in-Less : goal.loop-at-smaller-in-Less
 loop-at-smaller-in-Less g c = falls_left g.K.Key.order _ _ _ (within_rows c.args.self.now.long) c.args.self.now.links _ c.held-held.ensures _ _ _ (omega arith) c.index-held-i.is c.loop-at.invariant (omega arith)
