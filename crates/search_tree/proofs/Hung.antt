@@ -1,10 +1,13 @@
 -- The search tree in the rows, as the code has them. Assumes nothing.
-use Rattle.std.proofs.Common.{◌≡◌, ℕ, suc, ◌+◌, ◌<◌, ◌≤◌, Ok, Err, Result, ◌⊎◌, List, [], ◌∷◌, ◌++◌, length, get_or, drop, set, Some, Ordering, Equal, sym, refl, ap, ◌∙◌, subst, inl, inr, ⊎_elim, add-one, arith}
+use Rattle.std.proofs.Common.{◌≡◌, ℕ, suc, ◌+◌, ◌<◌, ◌≤◌, Ok, Err, Result, ◌⊎◌, List, [], ◌∷◌, ◌++◌, length, get_or, drop, set, Some, None, Option, Ordering, Equal, sym, refl, ap, ◌∙◌, subst, inl, inr, ⊎_elim, add-one, arith}
 use Rattle.std.specs.List.{slice_get}
+use Rattle.std.specs.Option.{MatchOption}
+use Rattle.std.specs.Int.NonZero.{non_zero_u32_get}
+use Rattle.std.specs.declared.num.NonZeroU32.{NonZeroU32}
 use Rattle.std.proofs.lemmas.List.{length-set, drop-set-lt}
 use Rattle.std.proofs.lemmas.Bool.{cases_lt, cases_eq}
 use Rattle.dictionary.specs.Rows.{column}
-use Rattle.search_tree.specs.Tree.{Links, root, walk, found, turns, sought, keys, lefts, rights, Linked, InOrder, ends}
+use Rattle.search_tree.specs.Tree.{link, Links, root, walk, found, turns, sought, keys, lefts, rights, Linked, InOrder, ends}
 use Rattle.search_tree.specs.declared.row.TreeRow.{TreeRow}
 use Rattle.dictionary.specs.declared.rows.Slot.{Slot}
 use Rattle.dictionary.specs.declared.rows.Slot.TheVariants.{Root, Left, Right}
@@ -40,6 +43,11 @@ module _ {K : Type 0} (order : K → K → Ordering) (rows : List (TreeRow K)) (
       (λ (q : n ≤ 0). subst (λ m. At (walk turn (lefts rows) (rights rows) n Root m)) (let none : 0 ≡ root n = omega arith in none) (let z : n ≡ 0 = omega arith in z))
       (cases_lt 0 n))
 
+-- the link to row n
+pub link_to : (n : ℕ) (l : Option NonZeroU32) → MatchOption l (n + 1 ≡ 0) (λ m. non_zero_u32_get m ≡ n + 1) → link l ≡ n + 1
+link_to n None h = absurd (omega arith)
+link_to n (Some m) h = h
+
 -- what is to be shown of the rows with one more, for k
 pub record Hung {K : Type 0} (order : K → K → Ordering) (rows : List (TreeRow K)) (n : ℕ) (k : K) (rows' : List (TreeRow K)) : Type 0 where
   pub linked : Linked (n + 1) rows'
@@ -50,7 +58,7 @@ pub record Hung {K : Type 0} (order : K → K → Ordering) (rows : List (TreeRo
 -- A row for k at the end, and then at p a row v that differs from what stands there in a link at most.
 module _ {K : Type 0} (order : K → K → Ordering) (rows : List (TreeRow K)) (n : ℕ) (k : K) (itself : order k k ≡ Equal) (long : n < length rows) (links : Linked n rows) where
   abbrev pub fresh : TreeRow K
-  fresh = record { key = k; left = 0; right = 0 }
+  fresh = record { key = k; left = None; right = None }
 
   abbrev pub longer : List (TreeRow K)
   longer = set rows n fresh
@@ -87,8 +95,8 @@ module _ {K : Type 0} (order : K → K → Ordering) (rows : List (TreeRow K)) (
       (record {
         left_is = λ i h. absurd (omega arith);
         right_is = λ i h. absurd (omega arith);
-        left_new = column_same (λ w. w.left) rows n fresh long;
-        right_new = column_same (λ w. w.right) rows n fresh long;
+        left_new = column_same (λ w. link w.left) rows n fresh long;
+        right_new = column_same (λ w. link w.right) rows n fresh long;
         left_hung = λ i h. absurd (omega arith);
         right_hung = λ i h. absurd (omega arith);
       })
@@ -113,9 +121,9 @@ module _ {K : Type 0} (order : K → K → Ordering) (rows : List (TreeRow K)) (
       kept_new e = column_kept f longer p d v e n ∙ column_same f rows n fresh long ∙ none
 
       -- a column in which the edit wrote the link
-      module _ (free : (p < n) × (column f rows p ≡ 0)) (link : f v ≡ n + 1) where
+      module _ (free : (p < n) × (column f rows p ≡ 0)) (written : f v ≡ n + 1) where
         here : column f edited p ≡ suc n
-        here = column_same f longer p v (omega (arith, length-set rows n fresh, free.0)) ∙ link ∙ add-one n
+        here = column_same f longer p v (omega (arith, length-set rows n fresh, free.0)) ∙ written ∙ add-one n
 
         written_old : (i : ℕ) → i < n → (column f edited i ≡ column f rows i) ⊎ ((column f rows i ≡ 0) × (column f edited i ≡ suc n))
         written_old i h =
@@ -127,30 +135,30 @@ module _ {K : Type 0} (order : K → K → Ordering) (rows : List (TreeRow K)) (
         written_new : column f edited n ≡ 0
         written_new = column_other f longer p n v (λ e. absurd (omega (arith, free.0))) ∙ column_same f rows n fresh long ∙ none
 
-    pub hung_left : Err (Left p) ≡ ends order n rows k → v.left ≡ n + 1 → v.right ≡ (get_or longer p d).right → Hung order rows n k edited
-    hung_left e link same-right =
+    pub hung_left : Err (Left p) ≡ ends order n rows k → link v.left ≡ n + 1 → v.right ≡ (get_or longer p d).right → Hung order rows n k edited
+    hung_left e written same-right =
         let empty : (p < n) × (lefts rows p ≡ 0) = free order rows n k (omega arith) links (Left p) e in
         post edited (Left p) e
         (record {
-          left_is = written_old (λ w. w.left) refl empty link;
-          right_is = λ i h. inl (kept_old (λ w. w.right) refl same-right i h);
-          left_new = written_new (λ w. w.left) refl empty link;
-          right_new = kept_new (λ w. w.right) refl same-right;
-          left_hung = λ i h t. let ip : i ≡ p = cc in ap (lefts edited) ip ∙ here (λ w. w.left) refl empty link;
+          left_is = written_old (λ w. link w.left) refl empty written;
+          right_is = λ i h. inl (kept_old (λ w. link w.right) refl (ap link same-right) i h);
+          left_new = written_new (λ w. link w.left) refl empty written;
+          right_new = kept_new (λ w. link w.right) refl (ap link same-right);
+          left_hung = λ i h t. let ip : i ≡ p = cc in ap (lefts edited) ip ∙ here (λ w. link w.left) refl empty written;
           right_hung = λ i h t. let z : ◌≡◌ {A = ℕ} 0 1 = cc in absurd (omega arith);
         })
         edited_keys (edited_rest empty.0)
 
-    pub hung_right : Err (Right p) ≡ ends order n rows k → v.right ≡ n + 1 → v.left ≡ (get_or longer p d).left → Hung order rows n k edited
-    hung_right e link same_left =
+    pub hung_right : Err (Right p) ≡ ends order n rows k → link v.right ≡ n + 1 → v.left ≡ (get_or longer p d).left → Hung order rows n k edited
+    hung_right e written same_left =
         let empty : (p < n) × (rights rows p ≡ 0) = free order rows n k (omega arith) links (Right p) e in
         post edited (Right p) e
         (record {
-          left_is = λ i h. inl (kept_old (λ w. w.left) refl same_left i h);
-          right_is = written_old (λ w. w.right) refl empty link;
-          left_new = kept_new (λ w. w.left) refl same_left;
-          right_new = written_new (λ w. w.right) refl empty link;
+          left_is = λ i h. inl (kept_old (λ w. link w.left) refl (ap link same_left) i h);
+          right_is = written_old (λ w. link w.right) refl empty written;
+          left_new = kept_new (λ w. link w.left) refl (ap link same_left);
+          right_new = written_new (λ w. link w.right) refl empty written;
           left_hung = λ i h t. let z : ◌≡◌ {A = ℕ} 0 1 = cc in absurd (omega arith);
-          right_hung = λ i h t. let ip : i ≡ p = cc in ap (rights edited) ip ∙ here (λ w. w.right) refl empty link;
+          right_hung = λ i h t. let ip : i ≡ p = cc in ap (rights edited) ip ∙ here (λ w. link w.right) refl empty written;
         })
         edited_keys (edited_rest empty.0)

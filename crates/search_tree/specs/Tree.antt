@@ -2,14 +2,21 @@
 --     Links      each link leads on to a later row
 --     walk       where the walk for a key ends: at a row with the key, or at a slot where a row for it can be hung
 --     Reached    the walk for each key of the list ends at its row
-use Rattle.std.specs.Prelude.{◌≡◌, ℕ, zero, suc, ◌+◌, ◌<◌, ◌≤◌, min, List, map, length, Some, Ok, Err, Result, slice_index_or}
+use Rattle.std.specs.Prelude.{◌≡◌, ℕ, zero, suc, ◌+◌, ◌<◌, ◌≤◌, min, List, map, length, Some, None, Ok, Err, Option, Result, slice_index_or}
 use Rattle.std.specs.declared.cmp.Ordering.TheVariants.{Less, Equal, Greater}
 use Rattle.std.specs.declared.cmp.Ordering.{Ordering}
 use Rattle.std.specs.List.{slice_get}
+use Rattle.std.specs.Int.NonZero.{non_zero_u32_get}
+use Rattle.std.specs.declared.num.NonZeroU32.{NonZeroU32}
 use Rattle.dictionary.specs.Rows.{held, column}
 use Rattle.dictionary.specs.declared.rows.Slot.{Slot}
 use Rattle.dictionary.specs.declared.rows.Slot.TheVariants.{Root, Left, Right}
 use Rattle.search_tree.specs.declared.row.TreeRow.{TreeRow}
+
+-- a link as a number
+abbrev pub link : Option NonZeroU32 → ℕ
+link None = 0
+link (Some n) = non_zero_u32_get n
 
 -- each link leads on to a later row, among the n that are used
 abbrev pub Links : ℕ → (ℕ → ℕ) → (ℕ → ℕ) → Type 0
@@ -54,10 +61,10 @@ module _ {K : Type 0} where
   keys rows n = held (λ w. w.key) rows n
 
   abbrev pub lefts : List (TreeRow K) → ℕ → ℕ
-  lefts rows = column (λ w. w.left) rows
+  lefts rows = column (λ w. link w.left) rows
 
   abbrev pub rights : List (TreeRow K) → ℕ → ℕ
-  rights rows = column (λ w. w.right) rows
+  rights rows = column (λ w. link w.right) rows
 
   abbrev pub Linked : ℕ → List (TreeRow K) → Type 0
   Linked n rows = Links n (lefts rows) (rights rows)

@@ -5,6 +5,7 @@ ghost use Rattle.search_tree.specs.Tree.{Linked, InOrder, ends, keys};
 use crate::row::TreeRow;
 use dictionary::key::Key;
 use dictionary::rows::Slot;
+use std::num::NonZeroU32;
 
 /// Hangs a row for the key at the slot where its walk ended.
 pub(crate) fn hang<K: Key>(rows: &mut [TreeRow<K>], used: usize, slot: Slot, k: &K)
@@ -19,10 +20,10 @@ pub(crate) fn hang<K: Key>(rows: &mut [TreeRow<K>], used: usize, slot: Slot, k: 
 {
     rows[used] = TreeRow {
         key: *k,
-        left: 0,
-        right: 0,
+        left: None,
+        right: None,
     };
-    let link = used as u32 + 1;
+    let link = NonZeroU32::new(used as u32 + 1);
     match slot {
         Slot::Left(p) => {
             rows[p as usize].left = link;

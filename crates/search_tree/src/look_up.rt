@@ -7,6 +7,7 @@ use crate::tree::SearchTree;
 use dictionary::key::Key;
 use dictionary::rows::Slot;
 use std::cmp::Ordering;
+use std::num::NonZeroU32;
 
 impl<'a, K: Key> SearchTree<'a, K> {
     /// The rows that hold keys.
@@ -24,9 +25,9 @@ impl<'a, K: Key> SearchTree<'a, K> {
     {
         let held = self.held();
         let mut slot = Slot::Root;
-        let mut at = self.used.min(1) as u32;
-        while at != 0 {
-            let i = at - 1;
+        let mut at = NonZeroU32::new(self.used.min(1) as u32);
+        while let Some(n) = at {
+            let i = n.get() - 1;
             let row = &held[i as usize];
             (slot, at) = match k.cmp(&row.key) {
                 Ordering::Less => (Slot::Left(i), row.left),

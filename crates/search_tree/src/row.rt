@@ -1,26 +1,27 @@
 // The rows of a search tree.
-ghost use Rattle.std.specs.Prelude.{◌≡◌};
+ghost use Rattle.std.specs.Prelude.{◌≡◌, None};
 
 use dictionary::key::Key;
 use dictionary::rows::Row;
+use std::num::NonZeroU32;
 
-/// A key, and the links to the rows on its left and right: 0 for none, else the number of the row's key.
+/// A key, and the links to the rows on its left and right: each is the number of the row's key.
 #[derive(Clone, Copy)]
 pub struct TreeRow<K> {
     pub(crate) key: K,
-    pub(crate) left: u32,
-    pub(crate) right: u32,
+    pub(crate) left: Option<NonZeroU32>,
+    pub(crate) right: Option<NonZeroU32>,
 }
 
 impl<K: Key> TreeRow<K> {
     /// A row to hand in: what it holds does not matter.
     pub fn blank(key: K) -> TreeRow<K>
-        ensures { (result.key ≡ key) × (result.left ≡ 0) × (result.right ≡ 0) }
+        ensures { (result.key ≡ key) × (result.left ≡ None) × (result.right ≡ None) }
     {
         TreeRow {
             key,
-            left: 0,
-            right: 0,
+            left: None,
+            right: None,
         }
     }
 }
