@@ -1,9 +1,6 @@
 -- The search tree in the rows, as the code has them. Assumes nothing.
-use Rattle.std.proofs.Common.{◌≡◌, ℕ, suc, ◌+◌, ◌<◌, ◌≤◌, Ok, Err, Result, ◌⊎◌, List, [], ◌∷◌, ◌++◌, length, get_or, drop, set, Some, None, Option, Ordering, Equal, sym, refl, ap, ◌∙◌, subst, inl, inr, ⊎_elim, add-one, arith}
+use Rattle.std.proofs.Common.{◌≡◌, ℕ, suc, ◌+◌, ◌<◌, ◌≤◌, Ok, Err, Result, ◌⊎◌, List, [], ◌∷◌, ◌++◌, length, get_or, drop, set, Some, None, Ordering, Equal, sym, refl, ap, ◌∙◌, subst, inl, inr, ⊎_elim, add-one, arith}
 use Rattle.std.specs.List.{slice_get}
-use Rattle.std.specs.Option.{MatchOption}
-use Rattle.std.specs.Int.NonZero.{non_zero_u32_get}
-use Rattle.std.specs.declared.num.NonZeroU32.{NonZeroU32}
 use Rattle.std.proofs.lemmas.List.{length-set, drop-set-lt}
 use Rattle.std.proofs.lemmas.Bool.{cases_lt, cases_eq}
 use Rattle.dictionary.specs.Rows.{column}
@@ -42,11 +39,6 @@ module _ {K : Type 0} (order : K → K → Ordering) (rows : List (TreeRow K)) (
       (λ (q : 0 < n). subst (λ m. At (walk turn (lefts rows) (rights rows) n Root m)) (let one : 1 ≡ root n = omega arith in one) (free_from _ (ends_empty turn (lefts rows) (rights rows) n links n Root 0 q (omega arith))))
       (λ (q : n ≤ 0). subst (λ m. At (walk turn (lefts rows) (rights rows) n Root m)) (let none : 0 ≡ root n = omega arith in none) (let z : n ≡ 0 = omega arith in z))
       (cases_lt 0 n))
-
--- the link to row n
-pub link_to : (n : ℕ) (l : Option NonZeroU32) → MatchOption l (n + 1 ≡ 0) (λ m. non_zero_u32_get m ≡ n + 1) → link l ≡ n + 1
-link_to n None h = absurd (omega arith)
-link_to n (Some m) h = h
 
 -- what is to be shown of the rows with one more, for k
 pub record Hung {K : Type 0} (order : K → K → Ordering) (rows : List (TreeRow K)) (n : ℕ) (k : K) (rows' : List (TreeRow K)) : Type 0 where
@@ -121,9 +113,9 @@ module _ {K : Type 0} (order : K → K → Ordering) (rows : List (TreeRow K)) (
       kept_new e = column_kept f longer p d v e n ∙ column_same f rows n fresh long ∙ none
 
       -- a column in which the edit wrote the link
-      module _ (free : (p < n) × (column f rows p ≡ 0)) (written : f v ≡ n + 1) where
+      module _ (free : (p < n) × (column f rows p ≡ 0)) (written : f v ≡ suc n) where
         here : column f edited p ≡ suc n
-        here = column_same f longer p v (omega (arith, length-set rows n fresh, free.0)) ∙ written ∙ add-one n
+        here = column_same f longer p v (omega (arith, length-set rows n fresh, free.0)) ∙ written
 
         written_old : (i : ℕ) → i < n → (column f edited i ≡ column f rows i) ⊎ ((column f rows i ≡ 0) × (column f edited i ≡ suc n))
         written_old i h =
@@ -135,7 +127,7 @@ module _ {K : Type 0} (order : K → K → Ordering) (rows : List (TreeRow K)) (
         written_new : column f edited n ≡ 0
         written_new = column_other f longer p n v (λ e. absurd (omega (arith, free.0))) ∙ column_same f rows n fresh long ∙ none
 
-    pub hung_left : Err (Left p) ≡ ends order n rows k → link v.left ≡ n + 1 → v.right ≡ (get_or longer p d).right → Hung order rows n k edited
+    pub hung_left : Err (Left p) ≡ ends order n rows k → link v.left ≡ suc n → v.right ≡ (get_or longer p d).right → Hung order rows n k edited
     hung_left e written same-right =
         let empty : (p < n) × (lefts rows p ≡ 0) = free order rows n k (omega arith) links (Left p) e in
         post edited (Left p) e
@@ -149,7 +141,7 @@ module _ {K : Type 0} (order : K → K → Ordering) (rows : List (TreeRow K)) (
         })
         edited_keys (edited_rest empty.0)
 
-    pub hung_right : Err (Right p) ≡ ends order n rows k → link v.right ≡ n + 1 → v.left ≡ (get_or longer p d).left → Hung order rows n k edited
+    pub hung_right : Err (Right p) ≡ ends order n rows k → link v.right ≡ suc n → v.left ≡ (get_or longer p d).left → Hung order rows n k edited
     hung_right e written same_left =
         let empty : (p < n) × (rights rows p ≡ 0) = free order rows n k (omega arith) links (Right p) e in
         post edited (Right p) e

@@ -6,17 +6,15 @@ use Rattle.std.specs.Prelude.{◌≡◌, ℕ, zero, suc, ◌+◌, ◌<◌, ◌�
 use Rattle.std.specs.declared.cmp.Ordering.TheVariants.{Less, Equal, Greater}
 use Rattle.std.specs.declared.cmp.Ordering.{Ordering}
 use Rattle.std.specs.List.{slice_get}
-use Rattle.std.specs.Int.NonZero.{non_zero_u32_get}
-use Rattle.std.specs.declared.num.NonZeroU32.{NonZeroU32}
 use Rattle.dictionary.specs.Rows.{held, column}
 use Rattle.dictionary.specs.declared.rows.Slot.{Slot}
 use Rattle.dictionary.specs.declared.rows.Slot.TheVariants.{Root, Left, Right}
 use Rattle.search_tree.specs.declared.row.TreeRow.{TreeRow}
 
 -- a link as a number
-abbrev pub link : Option NonZeroU32 → ℕ
+abbrev pub link : Option ℕ → ℕ
 link None = 0
-link (Some n) = non_zero_u32_get n
+link (Some i) = suc i
 
 -- each link leads on to a later row, among the n that are used
 abbrev pub Links : ℕ → (ℕ → ℕ) → (ℕ → ℕ) → Type 0

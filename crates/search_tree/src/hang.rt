@@ -5,7 +5,6 @@ ghost use Rattle.search_tree.specs.Tree.{Linked, InOrder, ends, keys};
 use crate::row::TreeRow;
 use dictionary::key::Key;
 use dictionary::rows::Slot;
-use std::num::NonZeroU32;
 
 /// Hangs a row for the key at the slot where its walk ended.
 pub(crate) fn hang<K: Key>(rows: &mut [TreeRow<K>], used: usize, slot: Slot, k: &K)
@@ -23,7 +22,7 @@ pub(crate) fn hang<K: Key>(rows: &mut [TreeRow<K>], used: usize, slot: Slot, k: 
         left: None,
         right: None,
     };
-    let link = NonZeroU32::new(used as u32 + 1);
+    let link = Some(used as u32);
     match slot {
         Slot::Left(p) => {
             rows[p as usize].left = link;

@@ -7,7 +7,6 @@ use crate::tree::SearchTree;
 use dictionary::key::Key;
 use dictionary::rows::Slot;
 use std::cmp::Ordering;
-use std::num::NonZeroU32;
 
 impl<'a, K: Key> SearchTree<'a, K> {
     /// The rows that hold keys.
@@ -25,9 +24,8 @@ impl<'a, K: Key> SearchTree<'a, K> {
     {
         let held = self.held();
         let mut slot = Slot::Root;
-        let mut at = NonZeroU32::new(self.used.min(1) as u32);
-        while let Some(n) = at {
-            let i = n.get() - 1;
+        let mut at = if held.is_empty() { None } else { Some(0) };
+        while let Some(i) = at {
             let row = &held[i as usize];
             (slot, at) = match k.cmp(&row.key) {
                 Ordering::Less => (Slot::Left(i), row.left),

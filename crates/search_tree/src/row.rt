@@ -3,14 +3,13 @@ ghost use Rattle.std.specs.Prelude.{◌≡◌, None};
 
 use dictionary::key::Key;
 use dictionary::rows::Row;
-use std::num::NonZeroU32;
 
-/// A key, and the links to the rows on its left and right: each is the number of the row's key.
+/// A key, and the links to the rows on its left and right: they count the rows from 0.
 #[derive(Clone, Copy)]
 pub struct TreeRow<K> {
     pub(crate) key: K,
-    pub(crate) left: Option<NonZeroU32>,
-    pub(crate) right: Option<NonZeroU32>,
+    pub(crate) left: Option<u32>,
+    pub(crate) right: Option<u32>,
 }
 
 impl<K: Key> TreeRow<K> {
