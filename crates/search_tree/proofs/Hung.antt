@@ -1,5 +1,5 @@
 -- The search tree in the rows, as the code has them. Assumes nothing.
-use Rattle.std.proofs.Common.{◌≡◌, ℕ, suc, ◌+◌, ◌<◌, ◌≤◌, Ok, Err, Result, ◌⊎◌, List, [], ◌∷◌, ◌++◌, length, get_or, drop, set, Some, None, Ordering, Equal, sym, refl, ap, ◌∙◌, subst, inl, inr, ⊎_elim, add-one, arith}
+use Rattle.std.proofs.Common.{◌≡◌, ℕ, suc, ◌+◌, ◌<◌, ◌≤◌, Ok, Err, Result, ◌⊎◌, List, [], ◌∷◌, ◌++◌, length, get_or, drop, set, Some, None, Ordering, Equal, sym, ap, ◌∙◌, subst, inl, inr, ⊎_elim, add-one, arith}
 use Rattle.std.specs.List.{slice_get}
 use Rattle.std.proofs.lemmas.List.{length-set, drop-set-lt}
 use Rattle.std.proofs.lemmas.Bool.{cases_lt, cases_eq}
@@ -48,10 +48,7 @@ pub record Hung {K : Type 0} (order : K → K → Ordering) (rows : List (TreeRo
   pub rest : drop (n + 1) rows' ≡ drop (n + 1) rows
 
 -- A row for k at the end, and then at p a row v that differs from what stands there in a link at most.
-module _ {K : Type 0} (order : K → K → Ordering) (rows : List (TreeRow K)) (n : ℕ) (k : K) (itself : order k k ≡ Equal) (long : n < length rows) (links : Linked n rows) where
-  abbrev pub fresh : TreeRow K
-  fresh = record { key = k; left = None; right = None }
-
+module _ {K : Type 0} (order : K → K → Ordering) (rows : List (TreeRow K)) (n : ℕ) (k : K) (itself : order k k ≡ Equal) (long : n < length rows) (links : Linked n rows) (fresh : TreeRow K) (blank : (fresh.key ≡ k) × (fresh.left ≡ None) × (fresh.right ≡ None)) where
   abbrev pub longer : List (TreeRow K)
   longer = set rows n fresh
 
@@ -75,7 +72,7 @@ module _ {K : Type 0} (order : K → K → Ordering) (rows : List (TreeRow K)) (
   }
 
   longer_keys : keys longer (n + 1) ≡ keys rows n ++ k ∷ []
-  longer_keys = held_more (λ w. w.key) rows n fresh long
+  longer_keys = held_more (λ w. w.key) rows n fresh long ∙ ap (λ x. keys rows n ++ x ∷ []) blank.0
 
   longer_rest : drop (n + 1) longer ≡ drop (n + 1) rows
   longer_rest = drop-set-lt (n + 1) rows n fresh (omega arith)
@@ -87,8 +84,8 @@ module _ {K : Type 0} (order : K → K → Ordering) (rows : List (TreeRow K)) (
       (record {
         left_is = λ i h. absurd (omega arith);
         right_is = λ i h. absurd (omega arith);
-        left_new = column_same (λ w. link w.left) rows n fresh long;
-        right_new = column_same (λ w. link w.right) rows n fresh long;
+        left_new = column_same (λ w. link w.left) rows n fresh long ∙ ap link blank.1;
+        right_new = column_same (λ w. link w.right) rows n fresh long ∙ ap link blank.2;
         left_hung = λ i h. absurd (omega arith);
         right_hung = λ i h. absurd (omega arith);
       })
@@ -132,11 +129,11 @@ module _ {K : Type 0} (order : K → K → Ordering) (rows : List (TreeRow K)) (
         let empty : (p < n) × (lefts rows p ≡ 0) = free order rows n k (omega arith) links (Left p) e in
         post edited (Left p) e
         (record {
-          left_is = written_old (λ w. link w.left) refl empty written;
-          right_is = λ i h. inl (kept_old (λ w. link w.right) refl (ap link same-right) i h);
-          left_new = written_new (λ w. link w.left) refl empty written;
-          right_new = kept_new (λ w. link w.right) refl (ap link same-right);
-          left_hung = λ i h t. let ip : i ≡ p = cc in ap (lefts edited) ip ∙ here (λ w. link w.left) refl empty written;
+          left_is = written_old (λ w. link w.left) (ap link blank.1) empty written;
+          right_is = λ i h. inl (kept_old (λ w. link w.right) (ap link blank.2) (ap link same-right) i h);
+          left_new = written_new (λ w. link w.left) (ap link blank.1) empty written;
+          right_new = kept_new (λ w. link w.right) (ap link blank.2) (ap link same-right);
+          left_hung = λ i h t. let ip : i ≡ p = cc in ap (lefts edited) ip ∙ here (λ w. link w.left) (ap link blank.1) empty written;
           right_hung = λ i h t. let z : ◌≡◌ {A = ℕ} 0 1 = cc in absurd (omega arith);
         })
         edited_keys (edited_rest empty.0)
@@ -146,11 +143,11 @@ module _ {K : Type 0} (order : K → K → Ordering) (rows : List (TreeRow K)) (
         let empty : (p < n) × (rights rows p ≡ 0) = free order rows n k (omega arith) links (Right p) e in
         post edited (Right p) e
         (record {
-          left_is = λ i h. inl (kept_old (λ w. link w.left) refl (ap link same_left) i h);
-          right_is = written_old (λ w. link w.right) refl empty written;
-          left_new = kept_new (λ w. link w.left) refl (ap link same_left);
-          right_new = written_new (λ w. link w.right) refl empty written;
+          left_is = λ i h. inl (kept_old (λ w. link w.left) (ap link blank.1) (ap link same_left) i h);
+          right_is = written_old (λ w. link w.right) (ap link blank.2) empty written;
+          left_new = kept_new (λ w. link w.left) (ap link blank.1) (ap link same_left);
+          right_new = written_new (λ w. link w.right) (ap link blank.2) empty written;
           left_hung = λ i h t. let z : ◌≡◌ {A = ℕ} 0 1 = cc in absurd (omega arith);
-          right_hung = λ i h t. let ip : i ≡ p = cc in ap (rights edited) ip ∙ here (λ w. link w.right) refl empty written;
+          right_hung = λ i h t. let ip : i ≡ p = cc in ap (rights edited) ip ∙ here (λ w. link w.right) (ap link blank.2) empty written;
         })
         edited_keys (edited_rest empty.0)

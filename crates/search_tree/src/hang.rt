@@ -17,11 +17,7 @@ pub(crate) fn hang<K: Key>(rows: &mut [TreeRow<K>], used: usize, slot: Slot, k: 
     ensures ordered { InOrder K.Key.order used rows.old → InOrder K.Key.order (used + 1) rows.new }
     ensures rest { drop (used + 1) rows.new ≡ drop (used + 1) rows.old }
 {
-    rows[used] = TreeRow {
-        key: *k,
-        left: None,
-        right: None,
-    };
+    rows[used] = TreeRow::blank(*k);
     let link = Some(used as u32);
     match slot {
         Slot::Left(p) => {
