@@ -39,10 +39,6 @@ abbrev pub to_go : ℕ → Option ℕ → ℕ
 to_go n None = 0
 to_go n (Some i) = n - i
 
-falls : (n : ℕ) (l : Option ℕ) (i : ℕ) → i < n → (0 < link l → i + 1 < link l) → to_go n l < to_go n (Some i)
-falls n None i h later = omega arith
-falls n (Some j) i h later = omega (arith, later (omega arith))
-
 -- the same at rows: w is row i, where the link leads, read among the rows that hold keys
 module _ {K : Type 0} (order : K → K → Ordering) (rows : List (TreeRow K)) (n : ℕ) (k : K) (long : n ≤ length rows) (links : Linked n rows) where
   abbrev pub Resting : Slot → ℕ → Type 0
@@ -88,9 +84,3 @@ module _ {K : Type 0} (order : K → K → Ordering) (rows : List (TreeRow K)) (
 
     pub stop_here : order k w.key ≡ Equal → Ok i ≡ ends order n rows k
     stop_here same = rest_here _ _ _ n slot i (turn_is ∙ same) r ∙ whole
-
-    pub falls_left : to_go n w.left < to_go n l
-    falls_left = subst (λ q. to_go n w.left < to_go n q) (sym is_some) (falls n w.left i below left_later.1)
-
-    pub falls_right : to_go n w.right < to_go n l
-    falls_right = subst (λ q. to_go n w.right < to_go n q) (sym is_some) (falls n w.right i below right_later.1)
