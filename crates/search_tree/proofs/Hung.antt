@@ -18,7 +18,7 @@ Free rows n Root = n ≡ 0
 Free rows n (Left p) = (p < n) × (lefts rows p ≡ 0)
 Free rows n (Right p) = (p < n) × (rights rows p ≡ 0)
 
-module _ {K : Type 0} (order : K → K → Ordering) (rows : List (TreeRow K)) (n : ℕ) (k : K) (long : n ≤ length rows) (links : Linked n rows) where
+module _ {K : Type 0} (order : K → K → Ordering) (rows : List (TreeRow K)) (n : ℕ) (k : K) (long : n < length rows) (links : Linked n rows) where
   abbrev turn : ℕ → Ordering
   turn = turns order (keys rows n) k
 
@@ -34,7 +34,7 @@ module _ {K : Type 0} (order : K → K → Ordering) (rows : List (TreeRow K)) (
 
   pub free : (t : Slot) → Err t ≡ ends order n rows k → Free rows n t
   free t e =
-      subst At (ap (λ m. walk turn (lefts rows) (rights rows) m Root (root m)) (sym (held_long (λ w. w.key) rows n long)) ∙ sym e)
+      subst At (ap (λ m. walk turn (lefts rows) (rights rows) m Root (root m)) (sym (held_long (λ w. w.key) rows n (omega arith))) ∙ sym e)
       (⊎_elim
       (λ (q : 0 < n). subst (λ m. At (walk turn (lefts rows) (rights rows) n Root m)) (let one : 1 ≡ root n = omega arith in one) (free_from _ (ends_empty turn (lefts rows) (rights rows) n links n Root 0 q (omega arith))))
       (λ (q : n ≤ 0). subst (λ m. At (walk turn (lefts rows) (rights rows) n Root m)) (let none : 0 ≡ root n = omega arith in none) (let z : n ≡ 0 = omega arith in z))
@@ -79,7 +79,7 @@ module _ {K : Type 0} (order : K → K → Ordering) (rows : List (TreeRow K)) (
 
   pub hung_root : Err Root ≡ ends order n rows k → Hung order rows n k longer
   hung_root e =
-      let empty : n ≡ 0 = free order rows n k (omega arith) links Root e in
+      let empty : n ≡ 0 = free order rows n k long links Root e in
       post longer Root e
       (record {
         left_is = λ i h. absurd (omega arith);
@@ -126,7 +126,7 @@ module _ {K : Type 0} (order : K → K → Ordering) (rows : List (TreeRow K)) (
 
     pub hung_left : Err (Left p) ≡ ends order n rows k → link v.left ≡ suc n → v.right ≡ (get_or longer p d).right → Hung order rows n k edited
     hung_left e written same-right =
-        let empty : (p < n) × (lefts rows p ≡ 0) = free order rows n k (omega arith) links (Left p) e in
+        let empty : (p < n) × (lefts rows p ≡ 0) = free order rows n k long links (Left p) e in
         post edited (Left p) e
         (record {
           left_is = written_old (λ w. link w.left) (ap link blank.1) empty written;
@@ -140,7 +140,7 @@ module _ {K : Type 0} (order : K → K → Ordering) (rows : List (TreeRow K)) (
 
     pub hung_right : Err (Right p) ≡ ends order n rows k → link v.right ≡ suc n → v.left ≡ (get_or longer p d).left → Hung order rows n k edited
     hung_right e written same_left =
-        let empty : (p < n) × (rights rows p ≡ 0) = free order rows n k (omega arith) links (Right p) e in
+        let empty : (p < n) × (rights rows p ≡ 0) = free order rows n k long links (Right p) e in
         post edited (Right p) e
         (record {
           left_is = λ i h. inl (kept_old (λ w. link w.left) (ap link blank.1) (ap link same_left) i h);

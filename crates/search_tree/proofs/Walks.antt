@@ -44,8 +44,11 @@ module _ {K : Type 0} (order : K → K → Ordering) (rows : List (TreeRow K)) (
   abbrev pub Resting : Slot → ℕ → Type 0
   Resting slot at = Rest (turns order (keys rows n) k) (lefts rows) (rights rows) n slot at
 
-  whole : walk (turns order (keys rows n) k) (lefts rows) (rights rows) n Root (root n) ≡ ends order n rows k
-  whole = ap (λ m. walk (turns order (keys rows n) k) (lefts rows) (rights rows) m Root (root m)) (sym (held_long (λ w. w.key) rows n long))
+  abbrev going : ℕ → Slot → ℕ → Result ℕ Slot
+  going = walk (turns order (keys rows n) k) (lefts rows) (rights rows)
+
+  whole : going n Root (root n) ≡ ends order n rows k
+  whole = ap (λ m. going m Root (root m)) (sym (held_long (λ w. w.key) rows n long))
 
   module _ (front : List (TreeRow K)) (held : front ≡ take n rows) (slot : Slot) (l : Option ℕ) (i : ℕ) (is_some : l ≡ Some i) (w : TreeRow K) (read : w ≡ get_or front i w) (rest : Resting slot (link l)) where
     r : Resting slot (suc i)
@@ -73,8 +76,8 @@ module _ {K : Type 0} (order : K → K → Ordering) (rows : List (TreeRow K)) (
     right_later = subst (λ q. (q ≤ n) × (0 < q → i + 1 < q)) right_is (let o = links i below in (o.2, o.3))
 
     -- one step, as the order turns it
-    step : (o : Ordering) → order k w.key ≡ o → (m : ℕ) → walk (turns order (keys rows n) k) (lefts rows) (rights rows) (suc m) slot (suc i) ≡ pick o (walk (turns order (keys rows n) k) (lefts rows) (rights rows) m (Left i) (link w.left)) (Ok i) (walk (turns order (keys rows n) k) (lefts rows) (rights rows) m (Right i) (link w.right))
-    step o e m = λ j. pick ((turn_is ∙ e) j) (walk (turns order (keys rows n) k) (lefts rows) (rights rows) m (Left i) (left_is j)) (Ok i) (walk (turns order (keys rows n) k) (lefts rows) (rights rows) m (Right i) (right_is j))
+    step : (o : Ordering) → order k w.key ≡ o → (m : ℕ) → going (suc m) slot (suc i) ≡ pick o (going m (Left i) (link w.left)) (Ok i) (going m (Right i) (link w.right))
+    step o e m = λ j. pick ((turn_is ∙ e) j) (going m (Left i) (left_is j)) (Ok i) (going m (Right i) (right_is j))
 
     pub go_left : order k w.key ≡ Less → Resting (Left i) (link w.left)
     go_left less = rest_on _ _ _ n slot i (Left i) (link w.left) (step Less less) left_later.0 left_later.1 r

@@ -1,14 +1,14 @@
-use Rattle.std.proofs.Common.{◌<◌, ◌≤◌, length, Err, ap, sym, refl, ◌∙◌, arith, length-set, rules}
+use Rattle.std.proofs.Common.{◌<◌, length, Err, ap, sym, refl, ◌∙◌, arith, length-set, rules}
 use Rattle.dictionary.specs.declared.rows.Slot.TheVariants.{Left, Right}
 use Rattle.search_tree.proofs.Hung.{free, hung_root, hung_left, hung_right}
 use Rattle.dictionary.specs.Orders.{key_itself}
 use Rattle.search_tree.proofs.hang.hang.Goals as goal
 
 in_left : (g : _) (c : goal.In-Left g) → c.in-Left.p < c.args.used
-in_left g c = (free g.K.Key.order c.args.rows.now c.args.used c.args.k.now (let h : c.args.used ≤ length c.args.rows.now = omega arith in h) c.requires.links (Left c.in-Left.p) (ap Err (sym c.in-Left.is) ∙ c.requires.slot)).0
+in_left g c = (free g.K.Key.order _ _ _ c.requires.long c.requires.links (Left c.in-Left.p) (ap Err (sym c.in-Left.is) ∙ c.requires.slot)).0
 
 in_right : (g : _) (c : goal.In-Right g) → c.in-Right.p < c.args.used
-in_right g c = (free g.K.Key.order c.args.rows.now c.args.used c.args.k.now (let h : c.args.used ≤ length c.args.rows.now = omega arith in h) c.requires.links (Right c.in-Right.p) (ap Err (sym c.in-Right.is) ∙ c.requires.slot)).0
+in_right g c = (free g.K.Key.order _ _ _ c.requires.long c.requires.links (Right c.in-Right.p) (ap Err (sym c.in-Right.is) ∙ c.requires.slot)).0
 
 pub offset_bounds-rows-p : goal.offset_bounds-rows-p
 offset_bounds-rows-p g c = let h : c.in-Left.p < length c.args.rows.now = omega (arith, in_left g c) in search rules
