@@ -1,4 +1,4 @@
--- A search tree over rows. A link is 0 for none, else the number of the row's key. Assumes nothing.
+-- A search tree over rows. Here a link is a number: 0 for none, else the number of the row's key. Assumes nothing.
 --     Links      each link leads on to a later row
 --     walk       where the walk for a key ends: at a row with the key, or at a slot where a row for it can be hung
 --     Reached    the walk for each key of the list ends at its row
@@ -11,7 +11,7 @@ use Rattle.dictionary.specs.declared.rows.Slot.{Slot}
 use Rattle.dictionary.specs.declared.rows.Slot.TheVariants.{Root, Left, Right}
 use Rattle.search_tree.specs.declared.row.TreeRow.{TreeRow}
 
--- a link as a number
+-- the number of a link that counts the rows from 0
 abbrev pub link : Option ℕ → ℕ
 link None = 0
 link (Some i) = suc i

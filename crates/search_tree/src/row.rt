@@ -4,7 +4,8 @@ ghost use Rattle.std.specs.Prelude.{◌≡◌, None};
 use dictionary::key::Key;
 use dictionary::rows::Row;
 
-/// A key, and the links to the rows on its left and right: they count the rows from 0.
+// Rows are the caller's memory and nothing here allocates: a link is the index of a row, not a Box.
+/// A key, and the links to the rows on its left and right, which count from 0.
 #[derive(Clone, Copy)]
 pub struct TreeRow<K> {
     pub(crate) key: K,
