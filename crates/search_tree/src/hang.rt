@@ -20,12 +20,8 @@ pub(crate) fn hang<K: Key>(rows: &mut [TreeRow<K>], used: usize, slot: Slot, k: 
     rows[used] = TreeRow::blank(*k);
     let link = Some(used as u32);
     match slot {
-        Slot::Left(p) => {
-            rows[p as usize].left = link;
-        }
-        Slot::Right(p) => {
-            rows[p as usize].right = link;
-        }
         Slot::Root => {}
+        Slot::Left(p) => rows[p as usize].left = link,
+        Slot::Right(p) => rows[p as usize].right = link,
     }
 }
