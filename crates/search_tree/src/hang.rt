@@ -1,5 +1,6 @@
 // One key more in a search tree.
 ghost use Rattle.std.specs.Prelude.{◌≡◌, ◌+◌, ◌<◌, [], ◌∷◌, ◌++◌, length, drop, Err};
+ghost use Rattle.dictionary.specs.Meaning.{most};
 ghost use Rattle.search_tree.specs.Tree.{Linked, InOrder, ends, keys};
 
 use crate::row::TreeRow;
@@ -8,8 +9,7 @@ use dictionary::rows::Slot;
 
 /// Hangs a row for the key at the slot where its walk ended.
 pub(crate) fn hang<K: Key>(rows: &mut [TreeRow<K>], used: usize, slot: Slot, k: &K)
-    requires long { used < length rows.old }
-    requires small { used < 16777216 }
+    requires room { used < most (length rows.old) }
     requires links { Linked used rows.old }
     requires slot { Err slot ≡ ends K.Key.order used rows.old k.now }
     ensures links { Linked (used + 1) rows.new }
