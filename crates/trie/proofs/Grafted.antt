@@ -1,189 +1,241 @@
--- The trie in the rows, as the code has them. Assumes nothing.
-use Rattle.std.proofs.Common.{◌≡◌, ℕ, suc, ◌+◌, ◌-◌, ◌^◌, ◌<◌, ◌≤◌, Bool, true, false, not, ◌⊎◌, List, [], ◌∷◌, ◌++◌, length, get_or, drop, set, sym, refl, ap, ◌∙◌, subst, inl, inr, ⊎_elim, add-one, arith}
+-- The trie in the rows with one key more, as the code has them. Assumes nothing.
+use Rattle.std.proofs.Common.{◌≡◌, ℕ, suc, ◌+◌, ◌-◌, ◌<◌, ◌≤◌, Bool, true, false, not, ◌⊎◌, List, [], ◌∷◌, ◌++◌, length, get_or, drop, set, Ok, Some, sym, refl, ap, ◌∙◌, subst, inl, inr, ⊎_elim, add-one, arith}
 use Rattle.std.proofs.lemmas.List.{length-set, drop-set-lt}
 use Rattle.std.proofs.lemmas.Bool.{cases_lt, cases_eq}
-use Rattle.trie.specs.Bits.{bit, number, PartAt}
+use Rattle.trie.specs.Bits.{bit, number}
 use Rattle.dictionary.specs.Facts.{held_long}
-use Rattle.dictionary.specs.Rows.{column}
-use Rattle.trie.specs.Trie.{Under, at, go, Ends, ends_at, ends_on, Good, Goods, Sorted, Linked, Places, InPlace, SideAt, Turned, Way, bits_of, side, child, crits, keys}
-use Rattle.trie.specs.TrieFacts.{goods}
-use Rattle.trie.specs.declared.row.TrieRow.{TrieRow}
+use Rattle.dictionary.specs.Does.{Did}
+use Rattle.dictionary.specs.Meaning.{most, append, meaning}
+use Rattle.dictionary.specs.Rows.{beyond, column}
 use Rattle.dictionary.specs.declared.rows.Slot.{Slot}
-use Rattle.dictionary.specs.declared.rows.Slot.TheVariants.{Root}
+use Rattle.dictionary.specs.declared.rows.Slot.TheVariants.{Root, Left, Right}
+use Rattle.trie.specs.Trie.{Under, at, go, Ends, ends_at, ends_on, Good, Goods, Sorted, Hooked, InPlace, PartsFrom, SideAt, SlotAt, Turned, bits_of, side, child, crits, keys}
+use Rattle.trie.specs.TrieFacts.{goods}
+use Rattle.trie.specs.TrieMeaning.{Forks, meaning_of, Sound}
+use Rattle.trie.specs.declared.patricia.Trie.{Trie}
+use Rattle.trie.specs.declared.place.Place.{Place}
+use Rattle.trie.specs.declared.row.Hook.{Hook}
+use Rattle.trie.specs.declared.row.TrieRow.{TrieRow}
 use Rattle.trie.proofs.Grafts.{Grown, sides, goods_grown, root_kept, root_new, into, new_under, still, nodes_grown}
-use Rattle.dictionary.proofs.Held.{old_of, new_of, held_more, held_kept, column_same, column_other, column_kept}
+use Rattle.dictionary.proofs.Held.{old_of, new_of, held_more, held_kept, column_same, column_other, column_kept, drop_later}
+use Rattle.dictionary.proofs.Numbers.{appended}
 
 -- a walk ends at a leaf under its link
 pub ends_under : (child : Bool → ℕ → ℕ) (crit : ℕ → ℕ) (x : ℕ → Bool) (j l : ℕ) → Ends child crit x j l → Under child j l
 ends_under child crit x j l (ends_at l₁ h e) = at l h e
 ends_under child crit x j l (ends_on l₁ h r) = go (x (crit (l - 16777216))) l h (ends_under child crit x j _ r)
 
--- what is to be shown of the rows with one more, for k, and the root afterwards
-pub record Grafted {K : Type 0} (spelling : K → List ℕ) (rows : List (TrieRow K)) (n root : ℕ) (k : K) (rows' : List (TrieRow K)) (root' : ℕ) : Type 0 where
-  pub places : Places rows' (n + 1)
-  pub linked : Linked rows' (n + 1)
-  pub rooted : Good (crits rows') (n + 1) 0 root'
-  pub held : keys rows' (n + 1) ≡ keys rows n ++ k ∷ []
-  pub sorted : InPlace rows spelling n root → InPlace rows' spelling (n + 1) root'
-  pub rest : drop (n + 1) rows' ≡ drop (n + 1) rows
+-- what the links of rows with one more are, and the root afterwards
+pub record Links {K : Type 0} (n : ℕ) (rows : List (TrieRow K)) (root : ℕ) : Type 0 where
+  pub long : n + 1 ≤ most (length rows)
+  pub lefts : Goods (crits rows) (n + 1) (child rows false)
+  pub rights : Goods (crits rows) (n + 1) (child rows true)
+  pub rooted : Good (crits rows) (n + 1) 0 root
 
-module _ {K : Type 0} (spelling : K → List ℕ) (rows : List (TrieRow K)) (n root d j : ℕ) (k : K) (w : TrieRow K) (L : ℕ)
-    (long : n < length rows) (room : n < 16777216) (places : Places rows n) (links : Linked rows n) (rooted : Good (crits rows) n 0 root)
-    (is_key : w.key ≡ k) (is-place : number w.place ≡ d) (fits : (w.place.bit < 8) × (w.place.byte < 2 ^ 64))
-    (is-own : side (bit (spelling k) d) w ≡ n) (is-other : side (not (bit (spelling k) d)) w ≡ L)
-    (good : Good (crits rows) n (d + 1) L) (there : j < n) (under : Under (child rows) j L) (part : PartAt (bit (spelling k)) (bits_of spelling (keys rows n) j) d) where
+-- what it is to append the key k
+pub record Grafted {K : Type 0} (spelling : K → List ℕ) (t : Trie K) (k : K) (rows' : List (TrieRow K)) (root' : ℕ) : Type 0 where
+  pub links : Links t.used rows' root'
+  pub does : Sound spelling t → Did (append k (meaning_of t)) (Ok (t.used + 1)) (meaning (keys rows' (t.used + 1)) (most (length rows')) t.asks) (InPlace rows' spelling (t.used + 1) root')
+  pub rest : beyond rows' ≡ beyond t.rows.now
+
+module _ {K : Type 0} {spelling : K → List ℕ} {t : Trie K} {k : K} {p : Place} {h : Hook} {w : TrieRow K} (f : Forks spelling t k p h w) where
+  abbrev rows : List (TrieRow K)
+  rows = t.rows.now
+
+  abbrev n : ℕ
+  n = t.used
+
+  abbrev d : ℕ
+  d = number p
+
+  abbrev L : ℕ
+  L = h.link
+
+  abbrev x : ℕ → Bool
+  x = bit (spelling k)
+
   abbrev bits : ℕ → ℕ → Bool
   bits = bits_of spelling (keys rows n)
 
   abbrev bits' : ℕ → ℕ → Bool
   bits' = bits_of spelling (keys rows n ++ k ∷ [])
 
-  n_long : length (keys rows n) ≡ n
-  n_long = held_long (λ v. v.key) rows n (omega arith)
+  module _ (room : n < most (length rows)) (parts : PartsFrom rows spelling n t.root k d) (hooked : Hooked (child rows) (crits rows) n t.root x d (Some h)) where
+    inside : n < length rows
+    inside = omega (arith, room)
 
-  bits_old : (i t : ℕ) → i < n → bits' i t ≡ bits i t
-  bits_old i t h = ap (λ s. bit s t) (old_of spelling [] (keys rows n) k i (omega (arith, n_long)))
+    n_long : length (keys rows n) ≡ n
+    n_long = held_long (λ v. v.key) rows n (omega (arith, inside))
 
-  bits_new : (t : ℕ) → bits' n t ≡ bit (spelling k) t
-  bits_new t = ap (λ s. bit s t) (new_of spelling [] (keys rows n) k n n_long)
+    bits_old : (i t : ℕ) → i < n → bits' i t ≡ bits i t
+    bits_old i t h = ap (λ s. bit s t) (old_of spelling [] (keys rows n) k i (omega (arith, n_long)))
 
-  abbrev pub longer : List (TrieRow K)
-  longer = set rows n w
+    bits_new : (t : ℕ) → bits' n t ≡ x t
+    bits_new t = ap (λ s. bit s t) (new_of spelling [] (keys rows n) k n n_long)
 
-  before : (i : ℕ) → i < n → i ≡ n → ⊥
-  before i h e = omega arith
+    some : 0 < n
+    some = omega (arith, parts.1)
 
-  -- from the columns of the new rows
-  module _ (rows' : List (TrieRow K)) (root' : ℕ) (slot : Slot)
-      (crit_kept : (m : ℕ) → m < n → crits rows' m ≡ crits rows m) (crit_new : crits rows' n ≡ d)
-      (bit_kept : (m : ℕ) → m < n → column (λ v. v.place.bit) rows' m ≡ column (λ v. v.place.bit) rows m) (bit-new : column (λ v. v.place.bit) rows' n ≡ w.place.bit)
-      (byte-kept : (m : ℕ) → m < n → column (λ v. v.place.byte) rows' m ≡ column (λ v. v.place.byte) rows m) (byte-new : column (λ v. v.place.byte) rows' n ≡ w.place.byte)
-      (child_is : (b : Bool) (m : ℕ) → m < n → (child rows' b m ≡ child rows b m) ⊎ ((child rows b m ≡ L) × (child rows' b m ≡ 16777216 + n) × (crits rows m < d) × (bit (spelling k) (crits rows m) ≡ b)))
-      (child-new : (b : Bool) → child rows' b n ≡ side b w)
-      (is_held : keys rows' (n + 1) ≡ keys rows n ++ k ∷ []) (rest : drop (n + 1) rows' ≡ drop (n + 1) rows)
-      (turned : Turned (child rows) (crits rows) n root (child rows') root' (16777216 + n) slot) (way : Way (child rows) (crits rows) n root slot)
-      (root_is : (root' ≡ root) ⊎ ((root ≡ L) × (root' ≡ 16777216 + n))) where
-    grown : Grown n d L j (crits rows) (crits rows') (child rows) (child rows') bits bits'
-    grown = record {
-      room = room;
-      crit_kept = crit_kept;
-      crit_new = crit_new;
-      child_is = λ b m h. ⊎_elim inl (λ p. inr (p.0, p.1, p.2, bits_new (crits rows m) ∙ p.3)) (child_is b m h);
-      own = ap (λ c. child rows' c n) (bits_new d) ∙ child-new (bit (spelling k) d) ∙ is-own;
-      other = ap (λ c. child rows' (not c) n) (bits_new d) ∙ child-new (not (bit (spelling k) d)) ∙ is-other;
-      bits_kept = bits_old;
-      good = good;
-      there = there;
-      under = under;
-      agrees = λ t h. bits_new t ∙ part.1 t h;
-      differs = λ e. part.0 (sym (bits_new d) ∙ e);
-    }
+    -- from the columns of the new rows
+    module _ (rows' : List (TrieRow K)) (root' : ℕ) (long : length rows' ≡ length rows)
+        (crit_kept : (m : ℕ) → m < n → crits rows' m ≡ crits rows m) (crit_new : crits rows' n ≡ d)
+        (child_is : (b : Bool) (m : ℕ) → m < n → (child rows' b m ≡ child rows b m) ⊎ ((child rows b m ≡ L) × (child rows' b m ≡ 16777216 + n) × (crits rows m < d) × (x (crits rows m) ≡ b)))
+        (child_new : (b : Bool) → child rows' b n ≡ side b w)
+        (root_is : (root' ≡ t.root) ⊎ ((t.root ≡ L) × (root' ≡ 16777216 + n))) where
+      abbrev Here : Type 0
+      Here = Grown n d L parts.0 (crits rows) (crits rows') (child rows) (child rows') bits bits'
 
-    new_places : Places rows' (suc n)
-    new_places m h =
-        ⊎_elim
-        (λ (old : m < n). let p = places m (h.0, old) in let a = bit_kept m old in let b = byte-kept m old in (omega arith, omega arith))
-        (λ (new : n ≤ m).
-        let is : n ≡ m = omega (arith, h.1) in
-        subst (λ q. (column (λ v. v.place.bit) rows' q < 8) × (column (λ v. v.place.byte) rows' q < 2 ^ 64)) is
-        (let a = bit-new in let b = byte-new in (omega arith, omega arith)))
-        (cases_lt m n)
+      grown : Here
+      grown = record {
+        room = omega (arith, room);
+        crit_kept = crit_kept;
+        crit_new = crit_new;
+        child_is = λ b m h. ⊎_elim inl (λ p. inr (p.0, p.1, p.2, bits_new (crits rows m) ∙ p.3)) (child_is b m h);
+        own = ap (λ c. child rows' c n) (bits_new d) ∙ child_new (x d) ∙ f.own;
+        other = ap (λ c. child rows' (not c) n) (bits_new d) ∙ child_new (not (x d)) ∙ f.other;
+        bits_kept = bits_old;
+        good = hooked.0;
+        there = parts.1;
+        under = ends_under _ _ _ _ _ (hooked.3 parts.0 parts.2);
+        agrees = λ t h. bits_new t ∙ parts.3.1 t h;
+        differs = λ e. parts.3.0 (sym (bits_new d) ∙ e);
+      }
 
-    all_goods : (b : Bool) → Goods (crits rows') (suc n) (child rows' b)
-    all_goods = goods_grown n d L j (crits rows) (crits rows') (child rows) (child rows') bits bits' grown (goods rows n links)
+      old_goods : (b : Bool) → Goods (crits rows) n (child rows b)
+      old_goods = goods rows n (t.lefts, t.rights)
 
-    new_root : Good (crits rows') (suc n) 0 root'
-    new_root =
-        ⊎_elim
-        (λ e. subst (Good (crits rows') (suc n) 0) (sym e) (root_kept n d L j (crits rows) (crits rows') (child rows) (child rows') bits bits' grown (goods rows n links) root rooted))
-        (λ p. subst (Good (crits rows') (suc n) 0) (sym p.1) (root_new n d L j (crits rows) (crits rows') (child rows) (child rows') bits bits' grown (goods rows n links)))
-        root_is
+      all_goods : (b : Bool) → Goods (crits rows') (n + 1) (child rows' b)
+      all_goods b = subst (λ q. Goods (crits rows') q (child rows' b)) (sym (add-one n)) (goods_grown n d L parts.0 (crits rows) (crits rows') (child rows) (child rows') bits bits' grown old_goods b)
 
-    old_under : (i : ℕ) → Under (child rows') i root → Under (child rows') i root'
-    old_under i u =
-        ⊎_elim
-        (λ e. subst (Under (child rows') i) (sym e) u)
-        (λ p. subst (Under (child rows') i) (sym p.1) (into n d L j (crits rows) (crits rows') (child rows) (child rows') bits bits' grown (goods rows n links) i (subst (Under (child rows') i) p.0 u)))
-        root_is
+      new_root : Good (crits rows') (suc n) 0 root'
+      new_root =
+          ⊎_elim
+          (λ e. subst (Good (crits rows') (suc n) 0) (sym e) (root_kept n d L parts.0 (crits rows) (crits rows') (child rows) (child rows') bits bits' grown old_goods t.root (t.rooted some)))
+          (λ p. subst (Good (crits rows') (suc n) 0) (sym p.1) (root_new n d L parts.0 (crits rows) (crits rows') (child rows) (child rows') bits bits' grown old_goods))
+          root_is
 
-    new_sorted : Sorted (child rows) (crits rows) bits n root → Sorted (child rows') (crits rows') bits' (suc n) root'
-    new_sorted s = record {
-      nodes = nodes_grown n d L j (crits rows) (crits rows') (child rows) (child rows') bits bits' grown (goods rows n links) s.nodes;
-      under = λ i h. ⊎_elim
-          (λ (old : i < n). old_under i (still n d L j (crits rows) (crits rows') (child rows) (child rows') bits bits' grown (goods rows n links) i root (s.under i old) 0 rooted))
-          (λ (new : n ≤ i).
-          let is : n ≡ i = omega arith in
-          subst (λ q. Under (child rows') q root') is (way (child rows') root' (16777216 + n) n turned (new_under n d L j (crits rows) (crits rows') (child rows) (child rows') bits bits' grown (goods rows n links))))
-          (cases_lt i n);
-    }
+      links : Links n rows' root'
+      links = record {
+        long = omega (arith, room);
+        lefts = all_goods false;
+        rights = all_goods true;
+        rooted = subst (λ q. Good (crits rows') q 0 root') (sym (add-one n)) new_root;
+      }
 
-    pub grafted : Grafted spelling rows n root k rows' root'
-    grafted = record {
-      places = subst (Places rows') (sym (add-one n)) new_places;
-      linked = subst (Linked rows') (sym (add-one n)) (all_goods false, all_goods true);
-      rooted = subst (λ q. Good (crits rows') q 0 root') (sym (add-one n)) new_root;
-      held = is_held;
-      sorted = λ s. subst (λ q. Sorted (child rows') (crits rows') (bits_of spelling (keys rows' (n + 1))) q root') (sym (add-one n)) (subst (λ ks. Sorted (child rows') (crits rows') (bits_of spelling ks) (suc n) root') (sym is_held) (new_sorted s));
-      rest = rest;
-    }
+      old_under : (i : ℕ) → Under (child rows') i t.root → Under (child rows') i root'
+      old_under i u =
+          ⊎_elim
+          (λ e. subst (Under (child rows') i) (sym e) u)
+          (λ p. subst (Under (child rows') i) (sym p.1) (into n d L parts.0 (crits rows) (crits rows') (child rows) (child rows') bits bits' grown old_goods i (subst (Under (child rows') i) p.0 u)))
+          root_is
 
-  longer_held : keys longer (n + 1) ≡ keys rows n ++ k ∷ []
-  longer_held = held_more (λ v. v.key) rows n w long ∙ ap (λ q. keys rows n ++ q ∷ []) is_key
+      module _ (turned : Turned (child rows) (crits rows) n t.root (child rows') root' (16777216 + n) h.slot) (is_held : keys rows' (n + 1) ≡ keys rows n ++ k ∷ []) (rest : drop (n + 1) rows' ≡ drop (n + 1) rows) where
+        new_sorted : Sorted (child rows) (crits rows) bits n t.root → Sorted (child rows') (crits rows') bits' (suc n) root'
+        new_sorted s = record {
+          nodes = nodes_grown n d L parts.0 (crits rows) (crits rows') (child rows) (child rows') bits bits' grown old_goods s.nodes;
+          under = λ i h. ⊎_elim
+              (λ (old : i < n). old_under i (still n d L parts.0 (crits rows) (crits rows') (child rows) (child rows') bits bits' grown old_goods i t.root (s.under i old) 0 (t.rooted some)))
+              (λ (new : n ≤ i).
+              let is : n ≡ i = omega arith in
+              subst (λ q. Under (child rows') q root') is (hooked.2 (child rows') root' (16777216 + n) n turned (new_under n d L parts.0 (crits rows) (crits rows') (child rows) (child rows') bits bits' grown old_goods)))
+              (cases_lt i n);
+        }
 
-  longer_rest : drop (n + 1) longer ≡ drop (n + 1) rows
-  longer_rest = drop-set-lt (n + 1) rows n w (omega arith)
+        in_place : Sound spelling t → InPlace rows' spelling (n + 1) root'
+        in_place s = subst (λ q. Sorted (child rows') (crits rows') (bits_of spelling (keys rows' (n + 1))) q root') (sym (add-one n)) (subst (λ ks. Sorted (child rows') (crits rows') (bits_of spelling ks) (suc n) root') (sym is_held) (new_sorted s))
 
-  old : (f : TrieRow K → ℕ) (m : ℕ) → m < n → column f longer m ≡ column f rows m
-  old f m h = column_other f rows n m w (before m h)
+        grafted : Grafted spelling t k rows' root'
+        grafted = record {
+          links = links;
+          does = λ s. appended k (keys rows n) (most (length rows)) t.asks n n_long (in_place s) (keys rows' (n + 1)) (most (length rows')) room is_held (ap most long);
+          rest = ap (λ m. drop (most m) rows') long ∙ drop_later (n + 1) (most (length rows)) rows' rows (omega (arith, room)) rest;
+        }
 
-  new : (f : TrieRow K → ℕ) → column f longer n ≡ f w
-  new f = column_same f rows n w long
+    -- the new row alone
+    abbrev pub longer : List (TrieRow K)
+    longer = set rows n w
 
-  pub graft_root : root ≡ L → Way (child rows) (crits rows) n root Root → (root' : ℕ) → root' ≡ 16777216 + n → Grafted spelling rows n root k longer root'
-  graft_root e way root' is =
-      grafted longer root' Root
-      (old (λ v. number v.place)) (new (λ v. number v.place) ∙ is-place)
-      (old (λ v. v.place.bit)) (new (λ v. v.place.bit)) (old (λ v. v.place.byte)) (new (λ v. v.place.byte))
-      (λ b m h. inl (old (side b) m h)) (λ b. new (side b)) longer_held longer_rest is way (inr (e, is))
+    longer_held : keys longer (n + 1) ≡ keys rows n ++ k ∷ []
+    longer_held = held_more (λ v. v.key) rows n w inside ∙ ap (λ q. keys rows n ++ q ∷ []) f.key
 
-  -- and then at p a row v that differs from what stands there in the link of the side b
-  module _ (b : Bool) (p : ℕ) (d₀ v : TrieRow K) (same_key : v.key ≡ (get_or longer p d₀).key) (same_place : v.place ≡ (get_or longer p d₀).place) (same-side : side (not b) v ≡ side (not b) (get_or longer p d₀)) (link : side b v ≡ 16777216 + n) (s : SideAt (child rows) (crits rows) n root (bit (spelling k)) d b p L) where
-    abbrev pub edited : List (TrieRow K)
-    edited = set longer p v
+    longer_rest : drop (n + 1) longer ≡ drop (n + 1) rows
+    longer_rest = drop-set-lt (n + 1) rows n w (omega arith)
 
-    kept : (f : TrieRow K → ℕ) → f v ≡ f (get_or longer p d₀) → (m : ℕ) → column f edited m ≡ column f longer m
-    kept f e m = column_kept f longer p d₀ v e m
+    old : (of : TrieRow K → ℕ) (m : ℕ) → m < n → column of longer m ≡ column of rows m
+    old of m h = column_other of rows n m w (λ e. absurd (omega arith))
 
-    hung : child edited b p ≡ 16777216 + n
-    hung = column_same (side b) longer p v (omega (arith, length-set rows n w, s.1)) ∙ link
+    new : (of : TrieRow K → ℕ) → column of longer n ≡ of w
+    new of = column_same of rows n w inside
 
-    apart : (m : ℕ) → (m ≡ p → ⊥) → child edited b m ≡ child longer b m
-    apart m h = column_other (side b) longer p m v h
+    tests : crits longer n ≡ d
+    tests = new (λ v. number v.place) ∙ ap number f.place
 
-    -- a side is the one that was written, or the other one
-    by_side : (P : Bool → Type 0) → P b → P (not b) → (c : Bool) → P c
-    by_side P x y c = ⊎_elim (λ e. subst P (sym e) x) (λ e. subst P (sym e) y) (sides c b)
+    pub planted : Links n longer t.root
+    planted = links longer t.root (length-set rows n w) (old (λ v. number v.place)) tests (λ b m h. inl (old (side b) m h)) (λ b. new (side b)) (inl refl)
 
-    elsewhere : (c : Bool) (m : ℕ) → (m ≡ p → ⊥) → child edited c m ≡ child longer c m
-    elsewhere = by_side (λ c. (m : ℕ) → (m ≡ p → ⊥) → child edited c m ≡ child longer c m) apart (λ m h. kept (side (not b)) same-side m)
+    pub at_root : h.slot ≡ Root → (root' : ℕ) → root' ≡ 16777216 + n → Grafted spelling t k longer root'
+    at_root e root' is =
+        grafted longer root' (length-set rows n w) (old (λ v. number v.place)) tests (λ b m h. inl (old (side b) m h)) (λ b. new (side b))
+        (inr (subst (λ s. SlotAt (child rows) (crits rows) n t.root x d s L) e hooked.1, is))
+        (subst (Turned (child rows) (crits rows) n t.root (child longer) root' (16777216 + n)) (sym e) is)
+        longer_held longer_rest
 
-    pub graft_side : (slot : Slot) → Turned (child rows) (crits rows) n root (child edited) root (16777216 + n) slot → Way (child rows) (crits rows) n root slot → Grafted spelling rows n root k edited root
-    graft_side slot turned way =
-        grafted edited root slot
-        (λ m h. kept (λ q. number q.place) (ap number same_place) m ∙ old (λ q. number q.place) m h) (kept (λ q. number q.place) (ap number same_place) n ∙ new (λ q. number q.place) ∙ is-place)
-        (λ m h. kept (λ q. q.place.bit) (ap (λ q. q.bit) same_place) m ∙ old (λ q. q.place.bit) m h) (kept (λ q. q.place.bit) (ap (λ q. q.bit) same_place) n ∙ new (λ q. q.place.bit))
-        (λ m h. kept (λ q. q.place.byte) (ap (λ q. q.byte) same_place) m ∙ old (λ q. q.place.byte) m h) (kept (λ q. q.place.byte) (ap (λ q. q.byte) same_place) n ∙ new (λ q. q.place.byte))
-        (by_side (λ c. (m : ℕ) → m < n → (child edited c m ≡ child rows c m) ⊎ ((child rows c m ≡ L) × (child edited c m ≡ 16777216 + n) × (crits rows m < d) × (bit (spelling k) (crits rows m) ≡ c)))
-        (λ m h. ⊎_elim
-        (λ (e : m ≡ p). inr (ap (child rows b) e ∙ s.2, ap (child edited b) e ∙ hung, (let c = ap (crits rows) e in omega (arith, s.3)), ap (λ q. bit (spelling k) (crits rows q)) e ∙ s.4))
-        (λ (e : m ≡ p → ⊥). inl (apart m e ∙ old (side b) m h))
-        (cases_eq m p))
-        (λ m h. inl (kept (side (not b)) same-side m ∙ old (side (not b)) m h)))
-        (λ c. elsewhere c n (λ e. absurd (omega (arith, s.1))) ∙ new (side c))
-        (held_kept (λ q. q.key) longer (n + 1) p d₀ v same_key ∙ longer_held)
-        (drop-set-lt (n + 1) longer p v (omega (arith, s.1)) ∙ longer_rest)
-        turned way (inl refl)
+    -- and then at q a row v that differs from what stands there in the link of the side b
+    module _ (b : Bool) (q : ℕ) (s : SideAt (child rows) (crits rows) n t.root x d b q L) (d₀ v : TrieRow K) (same_key : v.key ≡ (get_or longer q d₀).key) (same_place : v.place ≡ (get_or longer q d₀).place) (same_side : side (not b) v ≡ side (not b) (get_or longer q d₀)) (link : side b v ≡ 16777216 + n) where
+      abbrev pub edited : List (TrieRow K)
+      edited = set longer q v
 
-    -- what is asked of the slot
-    pub is_turned : (root ≡ root) × (child edited b p ≡ 16777216 + n) × ((c : Bool) (m : ℕ) → m < n → crits rows m < crits rows p → child edited c m ≡ child rows c m)
-    is_turned = (refl, hung, λ c m h early. elsewhere c m (λ e. let q = ap (crits rows) e in omega arith) ∙ old (side c) m h)
+      kept : (of : TrieRow K → ℕ) → of v ≡ of (get_or longer q d₀) → (m : ℕ) → column of edited m ≡ column of longer m
+      kept of e m = column_kept of longer q d₀ v e m
+
+      tested : (m : ℕ) → crits edited m ≡ crits longer m
+      tested = kept (λ r. number r.place) (ap number same_place)
+
+      hung : child edited b q ≡ 16777216 + n
+      hung = column_same (side b) longer q v (omega (arith, length-set rows n w, s.1, inside)) ∙ link
+
+      apart : (m : ℕ) → (m ≡ q → ⊥) → child edited b m ≡ child longer b m
+      apart m h = column_other (side b) longer q m v h
+
+      -- a side is the one that was written, or the other one
+      by_side : (P : Bool → Type 0) → P b → P (not b) → (c : Bool) → P c
+      by_side P y z c = ⊎_elim (λ e. subst P (sym e) y) (λ e. subst P (sym e) z) (sides c b)
+
+      elsewhere : (c : Bool) (m : ℕ) → (m ≡ q → ⊥) → child edited c m ≡ child longer c m
+      elsewhere = by_side (λ c. (m : ℕ) → (m ≡ q → ⊥) → child edited c m ≡ child longer c m) apart (λ m h. kept (side (not b)) same_side m)
+
+      is_turned : (t.root ≡ t.root) × (child edited b q ≡ 16777216 + n) × ((c : Bool) (m : ℕ) → m < n → crits rows m < crits rows q → child edited c m ≡ child rows c m)
+      is_turned = (refl, hung, λ c m h early. elsewhere c m (λ e. let r = ap (crits rows) e in omega arith) ∙ old (side c) m h)
+
+      at_side : Turned (child rows) (crits rows) n t.root (child edited) t.root (16777216 + n) h.slot → Grafted spelling t k edited t.root
+      at_side turned =
+          grafted edited t.root (length-set longer q v ∙ length-set rows n w)
+          (λ m h. tested m ∙ old (λ r. number r.place) m h) (tested n ∙ tests)
+          (by_side (λ c. (m : ℕ) → m < n → (child edited c m ≡ child rows c m) ⊎ ((child rows c m ≡ L) × (child edited c m ≡ 16777216 + n) × (crits rows m < d) × (x (crits rows m) ≡ c)))
+          (λ m h. ⊎_elim
+          (λ (e : m ≡ q). inr (ap (child rows b) e ∙ s.2, ap (child edited b) e ∙ hung, (let c = ap (crits rows) e in omega (arith, s.3)), ap (λ r. x (crits rows r)) e ∙ s.4))
+          (λ (e : m ≡ q → ⊥). inl (apart m e ∙ old (side b) m h))
+          (cases_eq m q))
+          (λ m h. inl (kept (side (not b)) same_side m ∙ old (side (not b)) m h)))
+          (λ c. elsewhere c n (λ e. absurd (omega (arith, s.1))) ∙ new (side c))
+          (inl refl) turned
+          (held_kept (λ r. r.key) longer (n + 1) q d₀ v same_key ∙ longer_held) (drop-set-lt (n + 1) longer q v (omega (arith, s.1)) ∙ longer_rest)
+
+    slot_is : (s : Slot) → h.slot ≡ s → SlotAt (child rows) (crits rows) n t.root x d s L
+    slot_is s e = subst (λ r. SlotAt (child rows) (crits rows) n t.root x d r L) e hooked.1
+
+    pub left_at : (q : ℕ) → h.slot ≡ Left q → SideAt (child rows) (crits rows) n t.root x d false q L
+    left_at q e = slot_is (Left q) e
+
+    pub right_at : (q : ℕ) → h.slot ≡ Right q → SideAt (child rows) (crits rows) n t.root x d true q L
+    right_at q e = slot_is (Right q) e
+
+    pub at_left : (q : ℕ) → h.slot ≡ Left q → (d₀ v : TrieRow K) → v.key ≡ (get_or longer q d₀).key → v.place ≡ (get_or longer q d₀).place → v.right ≡ (get_or longer q d₀).right → v.left ≡ 16777216 + n → Grafted spelling t k (set longer q v) t.root
+    at_left q e d₀ v a b c l =
+        let s = left_at q e in
+        at_side false q s d₀ v a b c l (subst (Turned (child rows) (crits rows) n t.root (child (set longer q v)) t.root (16777216 + n)) (sym e) (is_turned false q s d₀ v a b c l))
+
+    pub at_right : (q : ℕ) → h.slot ≡ Right q → (d₀ v : TrieRow K) → v.key ≡ (get_or longer q d₀).key → v.place ≡ (get_or longer q d₀).place → v.left ≡ (get_or longer q d₀).left → v.right ≡ 16777216 + n → Grafted spelling t k (set longer q v) t.root
+    at_right q e d₀ v a b c l =
+        let s = right_at q e in
+        at_side true q s d₀ v a b c l (subst (Turned (child rows) (crits rows) n t.root (child (set longer q v)) t.root (16777216 + n)) (sym e) (is_turned true q s d₀ v a b c l))

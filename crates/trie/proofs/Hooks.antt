@@ -1,7 +1,8 @@
 -- The way to where a new inner node belongs, step by step. Assumes nothing.
-use Rattle.std.proofs.Common.{◌≡◌, ℕ, ◌+◌, ◌-◌, ◌<◌, ◌≤◌, Bool, true, false, List, length, get_or, Some, None, Option, sym, refl, ap, ◌∙◌, subst, arith}
+use Rattle.std.proofs.Common.{◌≡◌, ℕ, ◌+◌, ◌-◌, ◌<◌, ◌≤◌, Bool, true, false, List, get_or, Some, None, Option, sym, refl, ap, ◌∙◌, subst, arith}
 use Rattle.trie.specs.Bits.{number}
-use Rattle.trie.specs.Trie.{Under, go, Good, Linked, Places, SideAt, SlotAt, SideTurned, Turned, Way, Passes, Hooked, side, child, crits}
+use Rattle.trie.specs.Trie.{Under, go, Good, SideAt, SlotAt, SideTurned, Turned, Way, Passes, Hooked, side, child, crits}
+use Rattle.trie.specs.declared.patricia.Trie.{Trie}
 use Rattle.trie.specs.declared.row.Hook.{Hook}
 use Rattle.trie.specs.declared.row.TrieRow.{TrieRow}
 use Rattle.dictionary.specs.declared.rows.Slot.{Slot}
@@ -46,23 +47,26 @@ module _ (child : Bool → ℕ → ℕ) (crit : ℕ → ℕ) (n root : ℕ) (x :
       pub way_right : (slot : Slot) → SlotAt child crit n root x d slot here → Way child crit n root slot → Way child crit n root (Right m)
       way_right slot s way child' root' new i turned u = on_way child' root' new true turned slot s way i u
 
--- the same at rows: w is the row that was read
-module _ {K : Type 0} (rows : List (TrieRow K)) (n root : ℕ) (x : ℕ → Bool) (d : ℕ) where
-  abbrev Hooks : Slot → ℕ → Type 0
-  Hooks = Hooking (child rows) (crits rows) n root x d
+-- the same at a trie: w is the row that was read
+module _ {K : Type 0} (t : Trie K) (x : ℕ → Bool) (d : ℕ) where
+  abbrev rows : List (TrieRow K)
+  rows = t.rows.now
+
+  abbrev pub Hooks : Slot → ℕ → Type 0
+  Hooks = Hooking (child rows) (crits rows) t.used t.root x d
 
   abbrev Found : Option Hook → Type 0
-  Found = Hooked (child rows) (crits rows) n root x d
+  Found = Hooked (child rows) (crits rows) t.used t.root x d
 
-  pub hook_start : Good (crits rows) n 0 root → Hooks Root root
-  hook_start good = record { good = good; at = refl; way = λ child' root' new i turned u. subst (Under child' i) (sym turned) u; passes = λ j e. e }
+  pub hook_start : 0 < t.used → Hooks Root t.root
+  hook_start some = record { good = t.rooted some; at = refl; way = λ child' root' new i turned u. subst (Under child' i) (sym turned) u; passes = λ j e. e }
 
   pub hook_leaf : (slot : Slot) (here : ℕ) → here < 16777216 → Hooks slot here → Found (Some (record { slot = slot; link = here }))
   hook_leaf slot here leaf h = ((h.good.0, h.good.1, h.good.2, λ q. absurd (omega arith)), h.at, h.way, h.passes)
 
-  module _ (slot : Slot) (here : ℕ) (w : TrieRow K) (long : n ≤ length rows) (places : Places rows n) (links : Linked rows n) (inner : 16777216 ≤ here) (is : w ≡ get_or rows (here - 16777216) w) (h : Hooks slot here) where
+  module _ (slot : Slot) (here : ℕ) (w : TrieRow K) (inner : 16777216 ≤ here) (is : w ≡ get_or rows (here - 16777216) w) (h : Hooks slot here) where
     crit : crits rows (here - 16777216) ≡ number w.place
-    crit = crit_is rows n root x here w long places links inner is h.good
+    crit = crit_is t x here w inner is h.good
 
     pub hook_there : d < number w.place → Found (Some (record { slot = slot; link = here }))
     hook_there later = ((h.good.0, h.good.1, h.good.2, λ q. let c = crit in omega arith), h.at, h.way, h.passes)
@@ -70,22 +74,22 @@ module _ {K : Type 0} (rows : List (TrieRow K)) (n root : ℕ) (x : ℕ → Bool
     pub hook_same : number w.place ≡ d → Found None
     hook_same same = (here, inner, h.good, crit ∙ same, h.passes)
 
-    side_at : (b : Bool) → number w.place < d → x (number w.place) ≡ b → SideAt (child rows) (crits rows) n root x d b (here - 16777216) (side b w)
+    side_at : (b : Bool) → number w.place < d → x (number w.place) ≡ b → SideAt (child rows) (crits rows) t.used t.root x d b (here - 16777216) (side b w)
     side_at b early e =
-        let q = node rows n root x here w long places links inner is h.good in
+        let q = node t x here w inner is h.good in
         let c = crit in
-        (q.0, q.1, side_is rows n root x here w long places links inner is h.good b, omega arith, ap x crit ∙ e)
+        (q.0, q.1, side_is t x here w inner is h.good b, omega arith, ap x crit ∙ e)
 
-    on : (b : Bool) (slot' : Slot) → x (number w.place) ≡ b → SlotAt (child rows) (crits rows) n root x d slot' (side b w) → Way (child rows) (crits rows) n root slot' → Hooks slot' (side b w)
+    on : (b : Bool) (slot' : Slot) → x (number w.place) ≡ b → SlotAt (child rows) (crits rows) t.used t.root x d slot' (side b w) → Way (child rows) (crits rows) t.used t.root slot' → Hooks slot' (side b w)
     on b slot' e at way = record {
-      good = good_on rows n root x here w long places links inner is h.good b;
+      good = good_on t x here w inner is h.good b;
       at = at;
       way = way;
-      passes = λ j r. step_on rows n root x here w long places links inner is h.good b e j (h.passes j r);
+      passes = λ j r. step_on t x here w inner is h.good b e j (h.passes j r);
     }
 
     pub hook_left : number w.place < d → x (number w.place) ≡ false → Hooks (Left (here - 16777216)) w.left
-    hook_left early e = on false _ e (side_at false early e) (way_left (child rows) (crits rows) n root x d (goods rows n links) here inner slot h.at h.way)
+    hook_left early e = on false _ e (side_at false early e) (way_left (child rows) (crits rows) t.used t.root x d (goods rows t.used (t.lefts, t.rights)) here inner slot h.at h.way)
 
     pub hook_right : number w.place < d → x (number w.place) ≡ true → Hooks (Right (here - 16777216)) w.right
-    hook_right early e = on true _ e (side_at true early e) (way_right (child rows) (crits rows) n root x d (goods rows n links) here inner slot h.at h.way)
+    hook_right early e = on true _ e (side_at true early e) (way_right (child rows) (crits rows) t.used t.root x d (goods rows t.used (t.lefts, t.rights)) here inner slot h.at h.way)

@@ -3,4 +3,5 @@ pub mod Grafts
 pub mod Hooks
 pub mod Meetings
 pub mod Partings
+pub mod Places
 pub mod Steps

@@ -1,11 +1,13 @@
 -- What the walk through a trie says of a key's number. Assumes nothing.
-use Rattle.std.proofs.Common.{◌≡◌, ℕ, suc, ◌+◌, ◌-◌, ◌<◌, ◌≤◌, Bool, List, [], map, length, get_or, Some, None, Ordering, Equal, sym, refl, ap, ◌∙◌, subst, add-one, arith}
+use Rattle.std.proofs.Common.{◌≡◌, ℕ, suc, ◌+◌, ◌-◌, ◌<◌, ◌≤◌, Bool, List, [], map, get_or, Some, None, Ordering, Equal, sym, refl, ap, ◌∙◌, subst, add-one, arith}
 use Rattle.std.specs.List.{slice_get}
 use Rattle.trie.specs.Bits.{bit}
-use Rattle.dictionary.specs.Facts.{held_long, nth_below}
+use Rattle.dictionary.specs.Facts.{held_long, nth_below, within_rows}
 use Rattle.dictionary.specs.Meaning.{number_of}
-use Rattle.trie.specs.Trie.{Under, at, go, Ends, ends_at, ends_on, Good, Goods, Node, Hooked, PartsFrom, Meets, Linked, Rooted, InPlace, bits_of, keys, child, crits}
+use Rattle.trie.specs.Trie.{Under, at, go, Ends, ends_at, ends_on, Good, Goods, Node, Hooked, PartsFrom, Meets, bits_of, keys, child, crits}
 use Rattle.trie.specs.TrieFacts.{goods, bits_at, one_place}
+use Rattle.trie.specs.TrieMeaning.{Sound}
+use Rattle.trie.specs.declared.patricia.Trie.{Trie}
 use Rattle.trie.specs.declared.row.TrieRow.{TrieRow}
 use Rattle.trie.specs.declared.row.Met.{Met}
 use Rattle.trie.specs.declared.row.Met.TheVariants.{Here, Apart, Nothing}
@@ -36,36 +38,47 @@ module _ (child : Bool → ℕ → ℕ) (crit : ℕ → ℕ) (bits : ℕ → ℕ
       let m = l - 16777216 in
       (nodes m (good.1 inner, good.2 inner)).on (x (crit m)) j (ends_under child crit x j _ (on j l (x (crit m)) ends inner refl))
 
-module _ {K : Type 0} (order : K → K → Ordering) (same : (x y : K) → order x y ≡ Equal → x ≡ y) (spelling : K → List ℕ) (rows : List (TrieRow K)) (n root : ℕ) (long : n ≤ length rows) (links : Linked rows n) (rooted : Rooted rows n root) (sound : InPlace rows spelling n root) (k : K) where
+module _ {K : Type 0} (order : K → K → Ordering) (same : (x y : K) → order x y ≡ Equal → x ≡ y) (spelling : K → List ℕ) (t : Trie K) (sound : Sound spelling t) (k : K) where
+  abbrev rows : List (TrieRow K)
+  rows = t.rows.now
+
+  abbrev ks : List K
+  ks = keys rows t.used
+
+  old_goods : (b : Bool) → Goods (crits rows) t.used (child rows b)
+  old_goods = goods rows t.used (t.lefts, t.rights)
+
+  within : (i : ℕ) (y : K) → slice_get ks i ≡ Some y → i < t.used
+  within i y is = omega (arith, nth_below ks i y is, held_long (λ w. w.key) rows t.used (within_rows t.long))
+
   -- the key stands at the place
-  pub met_here : order k k ≡ Equal → (i : ℕ) → slice_get (keys rows n) i ≡ Some k → number_of order (keys rows n) k ≡ Some (i + 1)
+  pub met_here : order k k ≡ Equal → (i : ℕ) → slice_get ks i ≡ Some k → number_of order ks k ≡ Some (i + 1)
   met_here itself i is =
-      number_some order k (keys rows n) (suc i) (λ j y at e. ap suc (one_place spelling rows n root long links rooted sound i j k is (at ∙ ap Some (sym (same k y e))))) i k is itself
+      number_some order k ks (suc i) (λ j y at e. ap suc (one_place spelling rows t.used t.root (within_rows t.long) (t.lefts, t.rights) t.rooted sound i j k is (at ∙ ap Some (sym (same k y e))))) i k is itself
       ∙ ap Some (sym (add-one i))
 
-  not_there : (d : ℕ) → PartsFrom rows spelling n root k d → (i : ℕ) (y : K) → slice_get (keys rows n) i ≡ Some y → order k y ≡ Equal → ⊥
+  not_there : (d : ℕ) → PartsFrom rows spelling t.used t.root k d → (i : ℕ) (y : K) → slice_get ks i ≡ Some y → order k y ≡ Equal → ⊥
   not_there d p i y is e =
-      let h : i < n = omega (arith, nth_below (keys rows n) i y is, held_long (λ w. w.key) rows n long) in
-      let own : get_or (map spelling (keys rows n)) i [] ≡ spelling k = bits_at spelling (keys rows n) i y is ∙ ap spelling (sym (same k y e)) in
+      let own : get_or (map spelling ks) i [] ≡ spelling k = bits_at spelling ks i y is ∙ ap spelling (sym (same k y e)) in
       let ij : i ≡ p.0 =
-      ends_there (child rows) (crits rows) (bits_of spelling (keys rows n)) n (goods rows n links) sound.nodes (bit (spelling k)) i root (sound.under i h) p.0 0 (rooted (omega arith)) (λ t. ap (λ s. bit s t) own) p.2
+      ends_there (child rows) (crits rows) (bits_of spelling ks) t.used old_goods sound.nodes (bit (spelling k)) i t.root (sound.under i (within i y is)) p.0 0 (t.rooted (omega (arith, p.1))) (λ q. ap (λ s. bit s q) own) p.2
       in
-      p.3.0 (sym (ap (λ s. bit s d) own) ∙ ap (λ q. bits_of spelling (keys rows n) q d) ij)
+      p.3.0 (sym (ap (λ s. bit s d) own) ∙ ap (λ q. bits_of spelling ks q d) ij)
 
   -- another key was met, or none
-  pub met_apart : (d : ℕ) → PartsFrom rows spelling n root k d → number_of order (keys rows n) k ≡ None
-  met_apart d p = number_none order k (keys rows n) 0 (λ i y is e. absurd (not_there d p i y is e)) refl
+  pub met_apart : (d : ℕ) → PartsFrom rows spelling t.used t.root k d → number_of order ks k ≡ None
+  met_apart d p = number_none order k ks 0 (λ i y is e. absurd (not_there d p i y is e)) refl
 
-  pub met_nothing : n ≡ 0 → number_of order (keys rows n) k ≡ None
-  met_nothing none = number_none order k (keys rows n) 0 (λ i y is e. absurd (omega (arith, nth_below (keys rows n) i y is, held_long (λ w. w.key) rows n long))) refl
+  pub met_nothing : t.used ≡ 0 → number_of order ks k ≡ None
+  met_nothing none = number_none order k ks 0 (λ i y is e. absurd (omega (arith, within i y is))) refl
 
-  pub met_other : (t : Met) → Meets rows spelling n root k t → ((i : ℕ) → t ≡ Here i → ⊥) → number_of order (keys rows n) k ≡ None
+  pub met_other : (m : Met) → Meets rows spelling t.used t.root k m → ((i : ℕ) → m ≡ Here i → ⊥) → number_of order ks k ≡ None
   met_other (Here i) m other = absurd (other i refl)
-  met_other (Apart p) m other = met_apart _ m.2
+  met_other (Apart p) m other = met_apart _ m
   met_other Nothing m other = met_nothing m
 
   -- no inner node on the way tests the place of the parting
-  pub hook_there : (d : ℕ) → PartsFrom rows spelling n root k d → Hooked (child rows) (crits rows) n root (bit (spelling k)) d None → ⊥
+  pub hook_there : (d : ℕ) → PartsFrom rows spelling t.used t.root k d → Hooked (child rows) (crits rows) t.used t.root (bit (spelling k)) d None → ⊥
   hook_there d p h =
-      let b = same_bit (child rows) (crits rows) (bits_of spelling (keys rows n)) n (goods rows n links) sound.nodes (bit (spelling k)) p.0 h.0 0 h.2 h.1 (h.4 p.0 p.2) in
-      p.3.0 (ap (bit (spelling k)) (sym h.3) ∙ sym b ∙ ap (bits_of spelling (keys rows n) p.0) h.3)
+      let b = same_bit (child rows) (crits rows) (bits_of spelling ks) t.used old_goods sound.nodes (bit (spelling k)) p.0 h.0 0 h.2 h.1 (h.4 p.0 p.2) in
+      p.3.0 (ap (bit (spelling k)) (sym h.3) ∙ sym b ∙ ap (bits_of spelling ks p.0) h.3)

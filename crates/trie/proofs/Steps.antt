@@ -2,85 +2,81 @@
 use Rattle.std.proofs.Common.{◌≡◌, ℕ, ◌+◌, ◌-◌, ◌^◌, ◌<◌, ◌≤◌, Bool, cond, ltb, List, length, get_or, sym, refl, ap, ◌∙◌, subst, arith}
 use Rattle.std.proofs.lemmas.Bool.Decides.{nat_tests}
 use Rattle.trie.specs.Bits.{number}
-use Rattle.trie.specs.Trie.{Ends, ends_at, ends_on, Good, Linked, Places, side, child, crits}
+use Rattle.trie.specs.Trie.{Ends, ends_at, ends_on, Good, side, child, crits}
 use Rattle.trie.specs.TrieFacts.{goods}
+use Rattle.trie.specs.declared.patricia.Trie.{Trie}
 use Rattle.trie.specs.declared.row.TrieRow.{TrieRow}
 use Rattle.dictionary.proofs.Held.{column_at}
 
-module _ {K : Type 0} (rows : List (TrieRow K)) (n root : ℕ) where
-  -- the place that was read fits
-  places_small : Places rows n → (m : ℕ) → (0 < m) × (m < n) → m < length rows → (w : TrieRow K) → w ≡ get_or rows m w → (w.place.bit < 8) × (w.place.byte < 2 ^ 64)
-  places_small places m h inside w is =
-      let p = places m h in (
-        subst (λ q. q < 8) (column_at (λ v. v.place.bit) rows m w inside is) p.0,
-        subst (λ q. q < 2 ^ 64) (column_at (λ v. v.place.byte) rows m w inside is) p.1,
-      )
+module _ {K : Type 0} (t : Trie K) (x : ℕ → Bool) where
+  abbrev rows : List (TrieRow K)
+  rows = t.rows.now
 
-  module _ (x : ℕ → Bool) where
-    -- the walk has come to a good link, and ends where the walk from there ends
-    pub record Going (here : ℕ) : Type 0 where
-      pub good : Good (crits rows) n 0 here
-      pub back : (j : ℕ) → Ends (child rows) (crits rows) x j here → Ends (child rows) (crits rows) x j root
+  abbrev EndsAt : ℕ → ℕ → Type 0
+  EndsAt = Ends (child rows) (crits rows) x
 
-    -- what falls with each step
-    abbrev pub to_go : ℕ → ℕ
-    to_go here = cond (ltb here 16777216) 0 (2 ^ 67 - crits rows (here - 16777216))
+  -- the walk has come to a good link, and ends where the walk from there ends
+  pub record Going (here : ℕ) : Type 0 where
+    pub good : Good (crits rows) t.used 0 here
+    pub back : (j : ℕ) → EndsAt j here → EndsAt j t.root
 
-    pub go_start : Good (crits rows) n 0 root → Going root
-    go_start good = record { good = good; back = λ j e. e }
+  -- what falls with each step
+  abbrev pub to_go : ℕ → ℕ
+  to_go here = cond (ltb here 16777216) 0 (2 ^ 67 - crits rows (here - 16777216))
 
-    -- the row w was read at a good link to an inner node
-    module _ (here : ℕ) (w : TrieRow K) (long : n ≤ length rows) (places : Places rows n) (links : Linked rows n) (inner : 16777216 ≤ here) (is : w ≡ get_or rows (here - 16777216) w) (good : Good (crits rows) n 0 here) where
-      abbrev m : ℕ
-      m = here - 16777216
+  pub go_start : 0 < t.used → Going t.root
+  go_start some = record { good = t.rooted some; back = λ j e. e }
 
-      pub node : (0 < m) × (m < n)
-      node = (good.1 inner, good.2 inner)
+  -- the row w was read at a good link to an inner node
+  module _ (here : ℕ) (w : TrieRow K) (inner : 16777216 ≤ here) (is : w ≡ get_or rows (here - 16777216) w) (good : Good (crits rows) t.used 0 here) where
+    abbrev m : ℕ
+    m = here - 16777216
 
-      inside : m < length rows
-      inside = omega (arith, good.2 inner)
+    pub node : (0 < m) × (m < t.used)
+    node = (good.1 inner, good.2 inner)
 
-      pub crit_is : crits rows m ≡ number w.place
-      crit_is = column_at (λ v. number v.place) rows m w inside is
+    inside : m < length rows
+    inside = omega (arith, good.2 inner, t.long)
 
-      pub side_is : (b : Bool) → child rows b m ≡ side b w
-      side_is b = column_at (side b) rows m w inside is
+    pub crit_is : crits rows m ≡ number w.place
+    crit_is = column_at (λ v. number v.place) rows m w inside is
 
-      pub place_fits : (w.place.bit < 8) × (w.place.byte < 2 ^ 64)
-      place_fits = places_small places m node inside w is
+    pub side_is : (b : Bool) → child rows b m ≡ side b w
+    side_is b = column_at (side b) rows m w inside is
 
-      side_good : (b : Bool) → Good (crits rows) n (crits rows m + 1) (side b w)
-      side_good b = subst (Good (crits rows) n (crits rows m + 1)) (side_is b) (goods rows n links b m node)
+    side_good : (b : Bool) → Good (crits rows) t.used (crits rows m + 1) (side b w)
+    side_good b = subst (Good (crits rows) t.used (crits rows m + 1)) (side_is b) (goods rows t.used (t.lefts, t.rights) b m node)
 
-      pub good_on : (b : Bool) → Good (crits rows) n 0 (side b w)
-      good_on b = let s = side_good b in (s.0, s.1, s.2, λ h. omega arith)
+    pub good_on : (b : Bool) → Good (crits rows) t.used 0 (side b w)
+    good_on b = let s = side_good b in (s.0, s.1, s.2, λ h. omega arith)
 
-      pub falls : (b : Bool) → to_go (side b w) < to_go here
-      falls b =
-          let c = crit_is in
-          let p = place_fits in
-          let s = side_good b in
-          let later : 16777216 ≤ side b w → crits rows m + 1 ≤ crits rows (side b w - 16777216) = s.3 in
-          let small : crits rows m < 2 ^ 67 = omega arith in
-          grind (arith, nat_tests)
+    pub falls : (b : Bool) → to_go (side b w) < to_go here
+    falls b =
+        let c = crit_is in
+        let p : w.place.bit < 8 = w.place.small in
+        let q : w.place.byte < 2 ^ 64 = w.place.within in
+        let s = side_good b in
+        let later : 16777216 ≤ side b w → crits rows m + 1 ≤ crits rows (side b w - 16777216) = s.3 in
+        let small : crits rows m < 2 ^ 67 = omega arith in
+        grind (arith, nat_tests)
 
-      -- the walk for x goes to the side of its bit
-      module _ (b : Bool) (e : x (number w.place) ≡ b) where
-        taken : child rows (x (crits rows m)) m ≡ side b w
-        taken = ap (λ c. child rows c m) (ap x crit_is ∙ e) ∙ side_is b
+    -- the walk for x goes to the side of its bit
+    module _ (b : Bool) (e : x (number w.place) ≡ b) where
+      taken : child rows (x (crits rows m)) m ≡ side b w
+      taken = ap (λ c. child rows c m) (ap x crit_is ∙ e) ∙ side_is b
 
-        pub step_back : (j : ℕ) → Ends (child rows) (crits rows) x j (side b w) → Ends (child rows) (crits rows) x j here
-        step_back j r = ends_on here inner (subst (Ends (child rows) (crits rows) x j) (sym taken) r)
+      pub step_back : (j : ℕ) → EndsAt j (side b w) → EndsAt j here
+      step_back j r = ends_on here inner (subst (EndsAt j) (sym taken) r)
 
-        step_from : (j l : ℕ) → l ≡ here → Ends (child rows) (crits rows) x j l → Ends (child rows) (crits rows) x j (side b w)
-        step_from j l q (ends_at l₁ h e₁) = absurd (omega arith)
-        step_from j l q (ends_on l₁ h r) = subst (Ends (child rows) (crits rows) x j) ((λ i. child rows (x (crits rows (q i - 16777216))) (q i - 16777216)) ∙ taken) r
+      step_from : (j l : ℕ) → l ≡ here → EndsAt j l → EndsAt j (side b w)
+      step_from j l q (ends_at l₁ h e₁) = absurd (omega arith)
+      step_from j l q (ends_on l₁ h r) = subst (EndsAt j) ((λ i. child rows (x (crits rows (q i - 16777216))) (q i - 16777216)) ∙ taken) r
 
-        pub step_on : (j : ℕ) → Ends (child rows) (crits rows) x j here → Ends (child rows) (crits rows) x j (side b w)
-        step_on j r = step_from j here refl r
+      pub step_on : (j : ℕ) → EndsAt j here → EndsAt j (side b w)
+      step_on j r = step_from j here refl r
 
-        pub go_on : ((j : ℕ) → Ends (child rows) (crits rows) x j here → Ends (child rows) (crits rows) x j root) → Going (side b w)
-        go_on back = record { good = good_on b; back = λ j r. back j (step_back j r) }
+      pub go_on : ((j : ℕ) → EndsAt j here → EndsAt j t.root) → Going (side b w)
+      go_on back = record { good = good_on b; back = λ j r. back j (step_back j r) }
 
-    pub go_end : (here : ℕ) → here < 16777216 → Going here → (here < n) × Ends (child rows) (crits rows) x here root
-    go_end here h g = (g.good.0 h, g.back here (ends_at here h refl))
+  pub go_end : (here : ℕ) → here < 16777216 → Going here → (here < t.used) × EndsAt here t.root
+  go_end here h g = (g.good.0 h, g.back here (ends_at here h refl))

@@ -20,4 +20,4 @@ PartAt x y d = (x d ≢ y d) × ((t : ℕ) → t < d → x t ≡ y t)
 -- the first place in which two spellings differ
 abbrev pub Parting : List ℕ → List ℕ → Option Place → Type 0
 Parting xs ys None = xs ≡ ys
-Parting xs ys (Some p) = (p.bit < 8) × (p.byte < 2 ^ 64) × PartAt (bit xs) (bit ys) (number p)
+Parting xs ys (Some p) = PartAt (bit xs) (bit ys) (number p)

@@ -6,7 +6,7 @@
 --     Good      a link to a leaf, or to an inner node that tests a late enough bit
 --     Node      what an inner node says of the leaves under it
 --     Sorted    all nodes do, and each leaf lies under the root
-use Rattle.std.specs.Prelude.{◌≡◌, ℕ, ◌+◌, ◌-◌, ◌^◌, ◌<◌, ◌≤◌, Bool, true, false, List, [], map, Some, None, Option, slice_index_or}
+use Rattle.std.specs.Prelude.{◌≡◌, ℕ, ◌+◌, ◌-◌, ◌<◌, ◌≤◌, Bool, true, false, List, [], map, Some, None, Option, slice_index_or}
 use Rattle.std.specs.List.{slice_get}
 use Rattle.trie.specs.Bits.{bit, number, PartAt}
 use Rattle.dictionary.specs.Rows.{held, column}
@@ -100,10 +100,7 @@ module _ {K : Type 0} (rows : List (TrieRow K)) where
   abbrev pub child : Bool → ℕ → ℕ
   child b = column (side b) rows
 
-  -- what needs no spelling: the places that inner nodes test, and where links lead
-  abbrev pub Places : ℕ → Type 0
-  Places n = (m : ℕ) → (0 < m) × (m < n) → (column (λ w. w.place.bit) rows m < 8) × (column (λ w. w.place.byte) rows m < 2 ^ 64)
-
+  -- what needs no spelling: where links lead
   abbrev pub Linked : ℕ → Type 0
   Linked n = Goods crits n (child false) × Goods crits n (child true)
 
@@ -120,5 +117,5 @@ module _ {K : Type 0} (rows : List (TrieRow K)) where
   -- what a look-up meets: the key itself, another key from which it first differs at a place, or an empty trie
   abbrev pub Meets : (K → List ℕ) → ℕ → ℕ → K → Met → Type 0
   Meets spelling n root k (Here i) = (i < n) × (slice_get (keys n) i ≡ Some k)
-  Meets spelling n root k (Apart p) = (p.bit < 8) × (p.byte < 2 ^ 64) × PartsFrom spelling n root k (number p)
+  Meets spelling n root k (Apart p) = PartsFrom spelling n root k (number p)
   Meets spelling n root k Nothing = n ≡ 0

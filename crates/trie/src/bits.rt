@@ -1,11 +1,9 @@
 // The bits of spellings.
 ghost use Rattle.std.specs.Prelude.{◌≡◌, ◌<◌};
-ghost use Rattle.std.specs.Ordering.{MatchOrdering};
 ghost use Rattle.trie.specs.Bits.{bit_of, bit, number, Parting};
 
 use crate::place::Place;
 use dictionary::key::Key;
-use std::cmp::Ordering;
 
 /// Bit j of a byte, the highest first.
 fn bit_of(b: u8, j: u8) -> bool
@@ -17,7 +15,6 @@ fn bit_of(b: u8, j: u8) -> bool
 
 /// The bit of the key's spelling at the place.
 pub(crate) fn bit_at<K: Key>(k: &K, place: Place) -> bool
-    requires { place.bit < 8 }
     ensures { result ≡ bit (K.Key.spelling k.now) (number place) }
 {
     bit_of(k.byte(place.byte), place.bit)
@@ -37,17 +34,4 @@ pub(crate) fn parting<K: Key>(a: &K, b: &K) -> Option<Place>
         }
     }
     None
-}
-
-/// How two places stand to each other, from the left.
-pub(crate) fn compare_places(a: Place, b: Place) -> Ordering
-    requires left { a.bit < 8 }
-    requires right { b.bit < 8 }
-    ensures { MatchOrdering result (number a < number b) (number a ≡ number b) (number b < number a) }
-{
-    if a.byte == b.byte {
-        a.bit.cmp(&b.bit)
-    } else {
-        a.byte.cmp(&b.byte)
-    }
 }

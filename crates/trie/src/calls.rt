@@ -8,9 +8,9 @@ ghost use Rattle.trie.specs.TrieFacts.{one_place};
 ghost use Rattle.trie.specs.TrieMeaning.{meaning_of, Sound};
 
 use crate::patricia::Trie;
-use crate::row::TrieRow;
-use crate::table::TrieTable;
+use crate::row::{Met, TrieRow};
 use dictionary::Dictionary;
+use dictionary::asks::one_more;
 use dictionary::key::Key;
 use dictionary::refusals::{Absent, Full};
 use dictionary::rows::capacity_over;
@@ -19,68 +19,76 @@ impl<'a, K: Key> Trie<'a, K> {
     /// A trie with no keys and no asks. Its capacity is the number of rows, up to 16,777,216; what they hold does not
     /// matter.
     pub fn new(rows: &'a mut [TrieRow<K>]) -> Trie<'a, K>
-        ensures meaning { meaning_of result.table ≡ new (length rows.old) }
-        ensures sound { Sound K.Key.spelling result.table }
-        ensures rows { result.table.rows.now ≡ rows.old }
-        ensures lent { result.table.rows.ghost_name ≡ rows.entry.ghost_name }
+        ensures meaning { meaning_of result ≡ new (length rows.old) }
+        ensures sound { Sound K.Key.spelling result }
+        ensures rows { result.rows.now ≡ rows.old }
+        ensures lent { result.rows.ghost_name ≡ rows.entry.ghost_name }
     {
         Trie {
-            table: TrieTable {
-                rows,
-                used: 0,
-                root: 0,
-                asks: 0,
-            },
+            rows,
+            used: 0,
+            root: 0,
+            asks: 0,
         }
     }
 }
 
 impl<'a, K: Key> Dictionary<K> for Trie<'a, K> {
-    ghost meaning = { λ t. meaning_of t.table };
+    ghost meaning = { meaning_of };
 
-    ghost sound = { λ t. Sound K.Key.spelling t.table };
+    ghost sound = { Sound K.Key.spelling };
 
-    ghost different = { λ t s. different_from (meaning_of t.table).keys (one_place K.Key.spelling t.table.rows.now t.table.used t.table.root (within_rows t.long) (t.lefts, t.rights) t.rooted s) };
+    ghost different = { λ t s. different_from (meaning_of t).keys (one_place K.Key.spelling t.rows.now t.used t.root (within_rows t.long) (t.lefts, t.rights) t.rooted s) };
 
-    ghost within = { λ t. held_within (λ w. w.key) t.table.rows.now t.table.used t.long };
+    ghost within = { λ t. held_within (λ w. w.key) t.rows.now t.used t.long };
 
-    ghost small = { λ t. most_small (length t.table.rows.now) };
+    ghost small = { λ t. most_small (length t.rows.now) };
 
     ghost counted = { λ t. t.counted };
 
     fn size(&self) -> u32 {
-        self.table.used as u32
+        self.used as u32
     }
 
     fn capacity(&self) -> u32 {
-        capacity_over(self.table.rows.len()) as u32
+        capacity_over(self.rows.len()) as u32
     }
 
     fn asks(&self) -> u64 {
-        self.table.asks
+        self.asks
     }
 
     fn find(&mut self, k: &K) -> Option<u32>
-        ensures does { Does (λ t. meaning_of t.table) (λ t. Sound K.Key.spelling t.table) self.old self.new result (finding K.Key.order k.now) }
-        ensures rows { self.new.table.rows.now ≡ self.old.table.rows.now }
-        ensures lent { self.new.table.rows.ghost_name ≡ self.old.table.rows.ghost_name }
+        ensures does { Does meaning_of (Sound K.Key.spelling) self.old self.new result (finding K.Key.order k.now) }
+        ensures rows { self.new.rows.now ≡ self.old.rows.now }
+        ensures lent { self.new.rows.ghost_name ≡ self.old.rows.ghost_name }
     {
-        self.table.find(k)
+        self.asks = one_more(self.asks);
+        match self.look(k) {
+            Met::Here(i) => Some(i + 1),
+            _ => None,
+        }
     }
 
     fn name(&mut self, k: &K) -> Result<u32, Full>
-        ensures does { Does (λ t. meaning_of t.table) (λ t. Sound K.Key.spelling t.table) self.old self.new result (naming K.Key.order k.now) }
-        ensures beyond { beyond self.new.table.rows.now ≡ beyond self.old.table.rows.now }
-        ensures lent { self.new.table.rows.ghost_name ≡ self.old.table.rows.ghost_name }
+        ensures does { Does meaning_of (Sound K.Key.spelling) self.old self.new result (naming K.Key.order k.now) }
+        ensures beyond { beyond self.new.rows.now ≡ beyond self.old.rows.now }
+        ensures lent { self.new.rows.ghost_name ≡ self.old.rows.ghost_name }
     {
-        self.table.name(k)
+        self.asks = one_more(self.asks);
+        match self.look(k) {
+            Met::Here(i) => Ok(i + 1),
+            Met::Apart(place) => self.insert(k, place),
+            Met::Nothing => self.first(k),
+        }
     }
 
     fn key(&mut self, n: u32) -> Result<K, Absent>
-        ensures does { Does (λ t. meaning_of t.table) (λ t. Sound K.Key.spelling t.table) self.old self.new result (keying n) }
-        ensures rows { self.new.table.rows.now ≡ self.old.table.rows.now }
-        ensures lent { self.new.table.rows.ghost_name ≡ self.old.table.rows.ghost_name }
+        ensures does { Does meaning_of (Sound K.Key.spelling) self.old self.new result (keying n) }
+        ensures rows { self.new.rows.now ≡ self.old.rows.now }
+        ensures lent { self.new.rows.ghost_name ≡ self.old.rows.ghost_name }
     {
-        self.table.key(n)
+        self.asks = one_more(self.asks);
+        self.at(n)
     }
 }

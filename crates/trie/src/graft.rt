@@ -1,91 +1,92 @@
 // One key more in a trie.
-ghost use Rattle.std.specs.Prelude.{◌≡◌, ◌+◌, ◌^◌, ◌<◌, not, [], ◌∷◌, ◌++◌, length, drop, Some};
+ghost use Rattle.std.specs.Prelude.{◌≡◌, ◌+◌, ◌<◌, length, Ok, Some};
 ghost use Rattle.trie.specs.Bits.{bit, number};
-ghost use Rattle.trie.specs.Trie.{Good, Hooked, InPlace, Linked, Places, PartsFrom, Rooted, child, crits, keys, side};
+ghost use Rattle.dictionary.specs.Does.{Does};
+ghost use Rattle.dictionary.specs.Meaning.{append, most};
+ghost use Rattle.dictionary.specs.Rows.{beyond};
+ghost use Rattle.trie.specs.Trie.{Hooked, PartsFrom, child, crits};
+ghost use Rattle.trie.specs.TrieMeaning.{Forks, meaning_of, Sound};
 
 use crate::bits::bit_at;
+use crate::patricia::Trie;
 use crate::place::Place;
 use crate::row::{Hook, TrieRow};
 use dictionary::key::Key;
-use dictionary::rows::Slot;
+use dictionary::refusals::Full;
+use dictionary::rows::{Slot, capacity_over};
 
-/// The first key.
-pub(crate) fn plant<K: Key>(rows: &mut [TrieRow<K>], k: &K)
-    requires { 0 < length rows.old }
-    ensures places { Places rows.new 1 }
-    ensures links { Linked rows.new 1 }
-    ensures root { Rooted rows.new 1 0 }
-    ensures keys { keys rows.new 1 ≡ k.now ∷ [] }
-    ensures sorted { InPlace rows.new K.Key.spelling 1 0 }
-    ensures rest { drop 1 rows.new ≡ drop 1 rows.old }
-{
-    rows[0] = TrieRow::blank(*k);
-}
-
-/// A leaf for the key, and an inner node that tests the place, with the leaf on the key's own side and the link on the
-/// other.
-fn forked<K: Key>(k: &K, place: Place, leaf: u32, link: u32) -> TrieRow<K>
-    requires { place.bit < 8 }
-    ensures key { result.key ≡ k.now }
-    ensures place { result.place ≡ place }
-    ensures own { side (bit (K.Key.spelling k.now) (number place)) result ≡ leaf }
-    ensures other { side (not (bit (K.Key.spelling k.now) (number place))) result ≡ link }
-{
-    let key = *k;
-    if bit_at(k, place) {
+impl<'a, K: Key> Trie<'a, K> {
+    /// A row for the next key: its leaf, and an inner node that tests the place, with the leaf on the key's own side and
+    /// the hook's link on the other.
+    fn fork(&self, k: &K, place: Place, hook: Hook) -> TrieRow<K>
+        ensures { Forks K.Key.spelling self.now k.now place hook result }
+    {
+        let key = *k;
+        let leaf = self.used as u32;
+        let (left, right) = if bit_at(k, place) {
+            (hook.link, leaf)
+        } else {
+            (leaf, hook.link)
+        };
         TrieRow {
             key,
             place,
-            left: link,
-            right: leaf,
-        }
-    } else {
-        TrieRow {
-            key,
-            place,
-            left: leaf,
-            right: link,
+            left,
+            right,
         }
     }
-}
 
-/// Hangs a row for the key, which first differs at the place from the keys that it meets. Answers the root afterwards.
-pub(crate) fn graft<K: Key>(
-    rows: &mut [TrieRow<K>],
-    used: usize,
-    root: u32,
-    k: &K,
-    place: Place,
-    hook: Hook,
-) -> u32
-    requires long { used < length rows.old }
-    requires small { used < 16777216 }
-    requires places { Places rows.old used }
-    requires links { Linked rows.old used }
-    requires root { Good (crits rows.old) used 0 root }
-    requires bit { place.bit < 8 }
-    requires byte { place.byte < 2 ^ 64 }
-    requires parts { PartsFrom rows.old K.Key.spelling used root k.now (number place) }
-    requires hooked { Hooked (child rows.old) (crits rows.old) used root (bit (K.Key.spelling k.now)) (number place) (Some hook) }
-    ensures places { Places rows.new (used + 1) }
-    ensures links { Linked rows.new (used + 1) }
-    ensures root { Good (crits rows.new) (used + 1) 0 result }
-    ensures keys { keys rows.new (used + 1) ≡ keys rows.old used ++ k.now ∷ [] }
-    ensures sorted { InPlace rows.old K.Key.spelling used root → InPlace rows.new K.Key.spelling (used + 1) result }
-    ensures rest { drop (used + 1) rows.new ≡ drop (used + 1) rows.old }
-{
-    let leaf = used as u32;
-    let node = leaf + 16_777_216;
-    rows[used] = forked(k, place, leaf, hook.link);
-    match hook.slot {
-        Slot::Root => node,
-        Slot::Left(p) => {
-            rows[p as usize].left = node;
-            root
+    /// Hangs a row for the key, which first differs at the place from the keys that it meets.
+    fn graft(&mut self, k: &K, place: Place, hook: Hook)
+        requires room { self.old.used < most (length self.old.rows.now) }
+        requires parts { PartsFrom self.old.rows.now K.Key.spelling self.old.used self.old.root k.now (number place) }
+        requires hooked { Hooked (child self.old.rows.now) (crits self.old.rows.now) self.old.used self.old.root (bit (K.Key.spelling k.now)) (number place) (Some hook) }
+        ensures does { Does meaning_of (Sound K.Key.spelling) self.old self.new (Ok (self.old.used + 1)) (append k.now) }
+        ensures beyond { beyond self.new.rows.now ≡ beyond self.old.rows.now }
+        ensures lent { self.new.rows.ghost_name ≡ self.old.rows.ghost_name }
+    {
+        let node = self.used as u32 + 16_777_216;
+        self.rows[self.used] = self.fork(k, place, hook);
+        self.used += 1;
+        match hook.slot {
+            Slot::Root => self.root = node,
+            Slot::Left(p) => self.rows[p as usize].left = node,
+            Slot::Right(p) => self.rows[p as usize].right = node,
         }
-        Slot::Right(p) => {
-            rows[p as usize].right = node;
-            root
+    }
+
+    /// Appends the first key, if there is room.
+    pub(crate) fn first(&mut self, k: &K) -> Result<u32, Full>
+        requires { self.old.used ≡ 0 }
+        ensures does { Does meaning_of (Sound K.Key.spelling) self.old self.new result (append k.now) }
+        ensures beyond { beyond self.new.rows.now ≡ beyond self.old.rows.now }
+        ensures lent { self.new.rows.ghost_name ≡ self.old.rows.ghost_name }
+    {
+        if capacity_over(self.rows.len()) == 0 {
+            return Err(Full { size: 0 });
         }
+        self.rows[0] = TrieRow::blank(*k);
+        self.used = 1;
+        self.root = 0;
+        Ok(1)
+    }
+
+    /// Appends a key that first differs at the place from the one that its walk met, if there is room.
+    pub(crate) fn insert(&mut self, k: &K, place: Place) -> Result<u32, Full>
+        requires { PartsFrom self.old.rows.now K.Key.spelling self.old.used self.old.root k.now (number place) }
+        ensures does { Does meaning_of (Sound K.Key.spelling) self.old self.new result (append k.now) }
+        ensures beyond { beyond self.new.rows.now ≡ beyond self.old.rows.now }
+        ensures lent { self.new.rows.ghost_name ≡ self.old.rows.ghost_name }
+    {
+        let size = self.used as u32;
+        if self.used >= capacity_over(self.rows.len()) {
+            return Err(Full { size });
+        }
+        // A sound trie has no inner node on the way that tests the place itself: the promise shows that this is not met.
+        let Some(hook) = self.hook(k, place) else {
+            return Err(Full { size });
+        };
+        self.graft(k, place, hook);
+        Ok(size + 1)
     }
 }

@@ -12,4 +12,3 @@ mod look_up;
 pub mod patricia;
 pub mod place;
 pub mod row;
-mod table;

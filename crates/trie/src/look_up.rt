@@ -1,50 +1,57 @@
-// The walk for a key, and what it meets.
-ghost use Rattle.std.specs.Prelude.{◌≡◌, ◌<◌, ◌≤◌, length};
+// The walk for a key, what it meets, and the key of a number.
+ghost use Rattle.std.specs.Prelude.{◌≡◌, ◌<◌};
+ghost use Rattle.dictionary.specs.Meaning.{key_of, or_absent};
 ghost use Rattle.trie.specs.Bits.{bit};
-ghost use Rattle.trie.specs.Trie.{Ends, Good, Linked, Meets, Places, Rooted, child, crits};
+ghost use Rattle.trie.specs.Trie.{Ends, Meets, child, crits, keys};
 
 use crate::bits::{bit_at, parting};
-use crate::row::{Met, TrieRow};
+use crate::patricia::Trie;
+use crate::row::Met;
 use dictionary::key::Key;
+use dictionary::refusals::Absent;
+use dictionary::rows::key_in;
 
-/// The leaf where the walk for the key ends.
-fn seek<K: Key>(rows: &[TrieRow<K>], used: usize, root: u32, k: &K) -> u32
-    requires long { used ≤ length rows.now }
-    requires small { used ≤ 16777216 }
-    requires places { Places rows.now used }
-    requires links { Linked rows.now used }
-    requires root { Good (crits rows.now) used 0 root }
-    ensures within { result < used }
-    ensures ends { Ends (child rows.now) (crits rows.now) (bit (K.Key.spelling k.now)) result root }
-{
-    let mut at = root;
-    while at >= 16_777_216 {
-        let i = at - 16_777_216;
-        let row = &rows[i as usize];
-        if bit_at(k, row.place) {
-            at = row.right;
-        } else {
-            at = row.left;
+impl<'a, K: Key> Trie<'a, K> {
+    /// The leaf where the walk for the key ends.
+    fn seek(&self, k: &K) -> u32
+        requires { 0 < self.now.used }
+        ensures within { result < self.now.used }
+        ensures ends { Ends (child self.now.rows.now) (crits self.now.rows.now) (bit (K.Key.spelling k.now)) result self.now.root }
+    {
+        let rows = &*self.rows;
+        let mut at = self.root;
+        while at >= 16_777_216 {
+            let i = at - 16_777_216;
+            let row = &rows[i as usize];
+            if bit_at(k, row.place) {
+                at = row.right;
+            } else {
+                at = row.left;
+            }
+        }
+        at
+    }
+
+    /// What the walk for the key meets: one whole key is compared at its end.
+    pub(crate) fn look(&self, k: &K) -> Met
+        ensures { Meets self.now.rows.now K.Key.spelling self.now.used self.now.root k.now result }
+    {
+        if self.used == 0 {
+            return Met::Nothing;
+        }
+        let leaf = self.seek(k);
+        let rows = &*self.rows;
+        match parting(k, &rows[leaf as usize].key) {
+            None => Met::Here(leaf),
+            Some(place) => Met::Apart(place),
         }
     }
-    at
-}
 
-/// What the walk for the key meets: one whole key is compared at its end.
-pub(crate) fn look<K: Key>(rows: &[TrieRow<K>], used: usize, root: u32, k: &K) -> Met
-    requires long { used ≤ length rows.now }
-    requires small { used ≤ 16777216 }
-    requires places { Places rows.now used }
-    requires links { Linked rows.now used }
-    requires root { Rooted rows.now used root }
-    ensures { Meets rows.now K.Key.spelling used root k.now result }
-{
-    if used == 0 {
-        return Met::Nothing;
-    }
-    let leaf = seek(rows, used, root, k);
-    match parting(k, &rows[leaf as usize].key) {
-        None => Met::Here(leaf),
-        Some(place) => Met::Apart(place),
+    /// Key n.
+    pub(crate) fn at(&self, n: u32) -> Result<K, Absent>
+        ensures { result ≡ or_absent (key_of (keys self.now.rows.now self.now.used) n) }
+    {
+        let rows = &*self.rows;
+        key_in(&rows[..self.used], n)
     }
 }

@@ -1,19 +1,21 @@
 // The trie.
 ghost use Rattle.std.specs.Prelude.{◌^◌, ◌<◌, ◌≤◌, true, false, length};
 ghost use Rattle.dictionary.specs.Meaning.{most};
-ghost use Rattle.trie.specs.Trie.{Goods, Places, Rooted, child, crits};
+ghost use Rattle.trie.specs.Trie.{Goods, Rooted, child, crits};
 
-use crate::table::TrieTable;
+use crate::row::TrieRow;
 
 /// A dictionary over lent rows, one key a row, that uses only the spelling of its keys. What needs no spelling is a ghost
 /// field, so that a walk stays within the rows and ends, whatever they held before.
 #[derive(Drop)]
 pub struct Trie<'a, K> {
-    pub(crate) table: TrieTable<'a, K>,
-    ghost long: { table.used ≤ most (length table.rows.now) },
-    ghost counted: { table.asks < 2 ^ 64 },
-    ghost places: { Places table.rows.now table.used },
-    ghost lefts: { Goods (crits table.rows.now) table.used (child table.rows.now false) },
-    ghost rights: { Goods (crits table.rows.now) table.used (child table.rows.now true) },
-    ghost rooted: { Rooted table.rows.now table.used table.root },
+    pub(crate) rows: &'a mut [TrieRow<K>],
+    pub(crate) used: usize,
+    pub(crate) root: u32,
+    pub(crate) asks: u64,
+    ghost long: { used ≤ most (length rows.now) },
+    ghost counted: { asks < 2 ^ 64 },
+    ghost lefts: { Goods (crits rows.now) used (child rows.now false) },
+    ghost rights: { Goods (crits rows.now) used (child rows.now true) },
+    ghost rooted: { Rooted rows.now used root },
 }

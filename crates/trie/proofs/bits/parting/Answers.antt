@@ -10,13 +10,18 @@ returns-then-x-ne0 g c =
     let a = c.byte.result in
     let b = c.byte-in-loop-i.result in
     let some : 0 < bit_xor c.byte.result c.byte-in-loop-i.result = search rules in
-    let low : bit_xor c.byte.result c.byte-in-loop-i.result < 2 ^ 8 = xor_lt 8 a b (search rules) (search rules) in (
-      zeros_below a b some low,
-      search rules,
-      part_at _ _ c.loop-i.i _ (zeros_below a b some low) c.loop-i.invariant
-          (differ_on _ _ _ _ _ c.byte.ensures c.byte-in-loop-i.ensures (bits_differ a b some low))
-          (agree_on _ _ _ _ _ c.byte.ensures c.byte-in-loop-i.ensures (bits_agree a b some low)),
-    )
+    let low : bit_xor c.byte.result c.byte-in-loop-i.result < 2 ^ 8 = xor_lt 8 a b (search rules) (search rules) in
+    part_at _ _ c.loop-i.i _ (zeros_below a b some low) c.loop-i.invariant
+    (differ_on _ _ _ _ _ c.byte.ensures c.byte-in-loop-i.ensures (bits_differ a b some low))
+    (agree_on _ _ _ _ _ c.byte.ensures c.byte-in-loop-i.ensures (bits_agree a b some low))
+
+pub invariant_of-result : goal.invariant_of-result
+invariant_of-result g c =
+    let a = c.byte.result in
+    let b = c.byte-in-loop-i.result in
+    let some : 0 < bit_xor c.byte.result c.byte-in-loop-i.result = search rules in
+    let low : bit_xor c.byte.result c.byte-in-loop-i.result < 2 ^ 8 = xor_lt 8 a b (search rules) (search rules) in
+    record { small = zeros_below a b some low; within = search rules }
 
 pub loop-i-preserved : goal.loop-i-preserved
 loop-i-preserved g c =

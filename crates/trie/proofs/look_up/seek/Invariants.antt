@@ -1,9 +1,0 @@
-use Rattle.trie.specs.Bits.{bit}
-use Rattle.trie.proofs.Steps.{Going, to_go}
-use Rattle.trie.proofs.look_up.seek.Given as goal
-
-abbrev pub invariant-loop-at : goal.invariant-loop-at
-invariant-loop-at g l = Going l.rows l.used l.root (bit (g.K.Key.spelling l.k)) l.at
-
-abbrev pub decreases-loop-at : goal.decreases-loop-at
-decreases-loop-at g l = to_go l.rows l.used l.root (bit (g.K.Key.spelling l.k)) l.at
