@@ -9,7 +9,7 @@ use Rattle.dictionary.specs.Meaning.{most, append, meaning}
 use Rattle.dictionary.specs.Rows.{beyond, column}
 use Rattle.dictionary.specs.declared.rows.Slot.{Slot}
 use Rattle.dictionary.specs.declared.rows.Slot.TheVariants.{Root, Left, Right}
-use Rattle.trie.specs.Trie.{Under, at, go, Ends, ends_at, ends_on, Good, Goods, Sorted, Hooked, InPlace, PartsFrom, SideAt, SlotAt, Turned, bits_of, side, child, crits, keys}
+use Rattle.trie.specs.Trie.{link_number, Under, at, go, Ends, ends_at, ends_on, Good, Goods, Sorted, Hooked, InPlace, PartsFrom, SideAt, SlotAt, Turned, bits_of, side, child, crits, keys}
 use Rattle.trie.specs.TrieFacts.{goods}
 use Rattle.trie.specs.TrieMeaning.{Forks, meaning_of, Sound}
 use Rattle.trie.specs.declared.patricia.Trie.{Trie}
@@ -23,7 +23,7 @@ use Rattle.dictionary.proofs.Numbers.{appended}
 -- a walk ends at a leaf under its link
 pub ends_under : (child : Bool → ℕ → ℕ) (crit : ℕ → ℕ) (x : ℕ → Bool) (j l : ℕ) → Ends child crit x j l → Under child j l
 ends_under child crit x j l (ends_at l₁ h e) = at l h e
-ends_under child crit x j l (ends_on l₁ h r) = go (x (crit (l - 16777216))) l h (ends_under child crit x j _ r)
+ends_under child crit x j l (ends_on l₁ h r) = go (x (crit (l - 4294967296))) l h (ends_under child crit x j _ r)
 
 -- what the links of rows with one more are, and the root afterwards
 pub record Links {K : Type 0} (n : ℕ) (rows : List (TrieRow K)) (root : ℕ) : Type 0 where
@@ -49,7 +49,7 @@ module _ {K : Type 0} {spelling : K → List ℕ} {t : Trie K} {k : K} {p : Plac
   d = number p
 
   abbrev L : ℕ
-  L = h.link
+  L = link_number h.link
 
   abbrev x : ℕ → Bool
   x = bit (spelling k)
@@ -60,7 +60,7 @@ module _ {K : Type 0} {spelling : K → List ℕ} {t : Trie K} {k : K} {p : Plac
   abbrev bits' : ℕ → ℕ → Bool
   bits' = bits_of spelling (keys rows n ++ k ∷ [])
 
-  module _ (room : n < most (length rows)) (parts : PartsFrom rows spelling n t.root k d) (hooked : Hooked (child rows) (crits rows) n t.root x d (Some h)) where
+  module _ (room : n < most (length rows)) (parts : PartsFrom rows spelling n (link_number t.root) k d) (hooked : Hooked (child rows) (crits rows) n (link_number t.root) x d (Some h)) where
     inside : n < length rows
     inside = omega (arith, room)
 
@@ -79,9 +79,9 @@ module _ {K : Type 0} {spelling : K → List ℕ} {t : Trie K} {k : K} {p : Plac
     -- from the columns of the new rows
     module _ (rows' : List (TrieRow K)) (root' : ℕ) (long : length rows' ≡ length rows)
         (crit_kept : (m : ℕ) → m < n → crits rows' m ≡ crits rows m) (crit_new : crits rows' n ≡ d)
-        (child_is : (b : Bool) (m : ℕ) → m < n → (child rows' b m ≡ child rows b m) ⊎ ((child rows b m ≡ L) × (child rows' b m ≡ 16777216 + n) × (crits rows m < d) × (x (crits rows m) ≡ b)))
+        (child_is : (b : Bool) (m : ℕ) → m < n → (child rows' b m ≡ child rows b m) ⊎ ((child rows b m ≡ L) × (child rows' b m ≡ 4294967296 + n) × (crits rows m < d) × (x (crits rows m) ≡ b)))
         (child_new : (b : Bool) → child rows' b n ≡ side b w)
-        (root_is : (root' ≡ t.root) ⊎ ((t.root ≡ L) × (root' ≡ 16777216 + n))) where
+        (root_is : (root' ≡ (link_number t.root)) ⊎ (((link_number t.root) ≡ L) × (root' ≡ 4294967296 + n))) where
       abbrev Here : Type 0
       Here = Grown n d L parts.0 (crits rows) (crits rows') (child rows) (child rows') bits bits'
 
@@ -110,7 +110,7 @@ module _ {K : Type 0} {spelling : K → List ℕ} {t : Trie K} {k : K} {p : Plac
       new_root : Good (crits rows') (suc n) 0 root'
       new_root =
           ⊎_elim
-          (λ e. subst (Good (crits rows') (suc n) 0) (sym e) (root_kept n d L parts.0 (crits rows) (crits rows') (child rows) (child rows') bits bits' grown old_goods t.root (t.rooted some)))
+          (λ e. subst (Good (crits rows') (suc n) 0) (sym e) (root_kept n d L parts.0 (crits rows) (crits rows') (child rows) (child rows') bits bits' grown old_goods (link_number t.root) (t.rooted some)))
           (λ p. subst (Good (crits rows') (suc n) 0) (sym p.1) (root_new n d L parts.0 (crits rows) (crits rows') (child rows) (child rows') bits bits' grown old_goods))
           root_is
 
@@ -122,22 +122,22 @@ module _ {K : Type 0} {spelling : K → List ℕ} {t : Trie K} {k : K} {p : Plac
         rooted = subst (λ q. Good (crits rows') q 0 root') (sym (add-one n)) new_root;
       }
 
-      old_under : (i : ℕ) → Under (child rows') i t.root → Under (child rows') i root'
+      old_under : (i : ℕ) → Under (child rows') i (link_number t.root) → Under (child rows') i root'
       old_under i u =
           ⊎_elim
           (λ e. subst (Under (child rows') i) (sym e) u)
           (λ p. subst (Under (child rows') i) (sym p.1) (into n d L parts.0 (crits rows) (crits rows') (child rows) (child rows') bits bits' grown old_goods i (subst (Under (child rows') i) p.0 u)))
           root_is
 
-      module _ (turned : Turned (child rows) (crits rows) n t.root (child rows') root' (16777216 + n) h.slot) (is_held : keys rows' (n + 1) ≡ keys rows n ++ k ∷ []) (rest : drop (n + 1) rows' ≡ drop (n + 1) rows) where
-        new_sorted : Sorted (child rows) (crits rows) bits n t.root → Sorted (child rows') (crits rows') bits' (suc n) root'
+      module _ (turned : Turned (child rows) (crits rows) n (link_number t.root) (child rows') root' (4294967296 + n) h.slot) (is_held : keys rows' (n + 1) ≡ keys rows n ++ k ∷ []) (rest : drop (n + 1) rows' ≡ drop (n + 1) rows) where
+        new_sorted : Sorted (child rows) (crits rows) bits n (link_number t.root) → Sorted (child rows') (crits rows') bits' (suc n) root'
         new_sorted s = record {
           nodes = nodes_grown n d L parts.0 (crits rows) (crits rows') (child rows) (child rows') bits bits' grown old_goods s.nodes;
           under = λ i h. ⊎_elim
-              (λ (old : i < n). old_under i (still n d L parts.0 (crits rows) (crits rows') (child rows) (child rows') bits bits' grown old_goods i t.root (s.under i old) 0 (t.rooted some)))
+              (λ (old : i < n). old_under i (still n d L parts.0 (crits rows) (crits rows') (child rows) (child rows') bits bits' grown old_goods i (link_number t.root) (s.under i old) 0 (t.rooted some)))
               (λ (new : n ≤ i).
               let is : n ≡ i = omega arith in
-              subst (λ q. Under (child rows') q root') is (hooked.2 (child rows') root' (16777216 + n) n turned (new_under n d L parts.0 (crits rows) (crits rows') (child rows) (child rows') bits bits' grown old_goods)))
+              subst (λ q. Under (child rows') q root') is (hooked.2 (child rows') root' (4294967296 + n) n turned (new_under n d L parts.0 (crits rows) (crits rows') (child rows) (child rows') bits bits' grown old_goods)))
               (cases_lt i n);
         }
 
@@ -170,18 +170,18 @@ module _ {K : Type 0} {spelling : K → List ℕ} {t : Trie K} {k : K} {p : Plac
     tests : crits longer n ≡ d
     tests = new (λ v. number v.place) ∙ ap number f.place
 
-    pub planted : Links n longer t.root
-    planted = links longer t.root (length-set rows n w) (old (λ v. number v.place)) tests (λ b m h. inl (old (side b) m h)) (λ b. new (side b)) (inl refl)
+    pub planted : Links n longer (link_number t.root)
+    planted = links longer (link_number t.root) (length-set rows n w) (old (λ v. number v.place)) tests (λ b m h. inl (old (side b) m h)) (λ b. new (side b)) (inl refl)
 
-    pub at_root : h.slot ≡ Root → (root' : ℕ) → root' ≡ 16777216 + n → Grafted spelling t k longer root'
+    pub at_root : h.slot ≡ Root → (root' : ℕ) → root' ≡ 4294967296 + n → Grafted spelling t k longer root'
     at_root e root' is =
         grafted longer root' (length-set rows n w) (old (λ v. number v.place)) tests (λ b m h. inl (old (side b) m h)) (λ b. new (side b))
-        (inr (subst (λ s. SlotAt (child rows) (crits rows) n t.root x d s L) e hooked.1, is))
-        (subst (Turned (child rows) (crits rows) n t.root (child longer) root' (16777216 + n)) (sym e) is)
+        (inr (subst (λ s. SlotAt (child rows) (crits rows) n (link_number t.root) x d s L) e hooked.1, is))
+        (subst (Turned (child rows) (crits rows) n (link_number t.root) (child longer) root' (4294967296 + n)) (sym e) is)
         longer_held longer_rest
 
     -- and then at q a row v that differs from what stands there in the link of the side b
-    module _ (b : Bool) (q : ℕ) (s : SideAt (child rows) (crits rows) n t.root x d b q L) (d₀ v : TrieRow K) (same_key : v.key ≡ (get_or longer q d₀).key) (same_place : v.place ≡ (get_or longer q d₀).place) (same_side : side (not b) v ≡ side (not b) (get_or longer q d₀)) (link : side b v ≡ 16777216 + n) where
+    module _ (b : Bool) (q : ℕ) (s : SideAt (child rows) (crits rows) n (link_number t.root) x d b q L) (d₀ v : TrieRow K) (same_key : v.key ≡ (get_or longer q d₀).key) (same_place : v.place ≡ (get_or longer q d₀).place) (same_side : side (not b) v ≡ side (not b) (get_or longer q d₀)) (link : side b v ≡ 4294967296 + n) where
       abbrev pub edited : List (TrieRow K)
       edited = set longer q v
 
@@ -191,7 +191,7 @@ module _ {K : Type 0} {spelling : K → List ℕ} {t : Trie K} {k : K} {p : Plac
       tested : (m : ℕ) → crits edited m ≡ crits longer m
       tested = kept (λ r. number r.place) (ap number same_place)
 
-      hung : child edited b q ≡ 16777216 + n
+      hung : child edited b q ≡ 4294967296 + n
       hung = column_same (side b) longer q v (omega (arith, length-set rows n w, s.1, inside)) ∙ link
 
       apart : (m : ℕ) → (m ≡ q → ⊥) → child edited b m ≡ child longer b m
@@ -204,14 +204,14 @@ module _ {K : Type 0} {spelling : K → List ℕ} {t : Trie K} {k : K} {p : Plac
       elsewhere : (c : Bool) (m : ℕ) → (m ≡ q → ⊥) → child edited c m ≡ child longer c m
       elsewhere = by_side (λ c. (m : ℕ) → (m ≡ q → ⊥) → child edited c m ≡ child longer c m) apart (λ m h. kept (side (not b)) same_side m)
 
-      is_turned : (t.root ≡ t.root) × (child edited b q ≡ 16777216 + n) × ((c : Bool) (m : ℕ) → m < n → crits rows m < crits rows q → child edited c m ≡ child rows c m)
+      is_turned : ((link_number t.root) ≡ (link_number t.root)) × (child edited b q ≡ 4294967296 + n) × ((c : Bool) (m : ℕ) → m < n → crits rows m < crits rows q → child edited c m ≡ child rows c m)
       is_turned = (refl, hung, λ c m h early. elsewhere c m (λ e. let r = ap (crits rows) e in omega arith) ∙ old (side c) m h)
 
-      at_side : Turned (child rows) (crits rows) n t.root (child edited) t.root (16777216 + n) h.slot → Grafted spelling t k edited t.root
+      at_side : Turned (child rows) (crits rows) n (link_number t.root) (child edited) (link_number t.root) (4294967296 + n) h.slot → Grafted spelling t k edited (link_number t.root)
       at_side turned =
-          grafted edited t.root (length-set longer q v ∙ length-set rows n w)
+          grafted edited (link_number t.root) (length-set longer q v ∙ length-set rows n w)
           (λ m h. tested m ∙ old (λ r. number r.place) m h) (tested n ∙ tests)
-          (by_side (λ c. (m : ℕ) → m < n → (child edited c m ≡ child rows c m) ⊎ ((child rows c m ≡ L) × (child edited c m ≡ 16777216 + n) × (crits rows m < d) × (x (crits rows m) ≡ c)))
+          (by_side (λ c. (m : ℕ) → m < n → (child edited c m ≡ child rows c m) ⊎ ((child rows c m ≡ L) × (child edited c m ≡ 4294967296 + n) × (crits rows m < d) × (x (crits rows m) ≡ c)))
           (λ m h. ⊎_elim
           (λ (e : m ≡ q). inr (ap (child rows b) e ∙ s.2, ap (child edited b) e ∙ hung, (let c = ap (crits rows) e in omega (arith, s.3)), ap (λ r. x (crits rows r)) e ∙ s.4))
           (λ (e : m ≡ q → ⊥). inl (apart m e ∙ old (side b) m h))
@@ -221,21 +221,21 @@ module _ {K : Type 0} {spelling : K → List ℕ} {t : Trie K} {k : K} {p : Plac
           (inl refl) turned
           (held_kept (λ r. r.key) longer (n + 1) q d₀ v same_key ∙ longer_held) (drop-set-lt (n + 1) longer q v (omega (arith, s.1)) ∙ longer_rest)
 
-    slot_is : (s : Slot) → h.slot ≡ s → SlotAt (child rows) (crits rows) n t.root x d s L
-    slot_is s e = subst (λ r. SlotAt (child rows) (crits rows) n t.root x d r L) e hooked.1
+    slot_is : (s : Slot) → h.slot ≡ s → SlotAt (child rows) (crits rows) n (link_number t.root) x d s L
+    slot_is s e = subst (λ r. SlotAt (child rows) (crits rows) n (link_number t.root) x d r L) e hooked.1
 
-    pub left_at : (q : ℕ) → h.slot ≡ Left q → SideAt (child rows) (crits rows) n t.root x d false q L
+    pub left_at : (q : ℕ) → h.slot ≡ Left q → SideAt (child rows) (crits rows) n (link_number t.root) x d false q L
     left_at q e = slot_is (Left q) e
 
-    pub right_at : (q : ℕ) → h.slot ≡ Right q → SideAt (child rows) (crits rows) n t.root x d true q L
+    pub right_at : (q : ℕ) → h.slot ≡ Right q → SideAt (child rows) (crits rows) n (link_number t.root) x d true q L
     right_at q e = slot_is (Right q) e
 
-    pub at_left : (q : ℕ) → h.slot ≡ Left q → (d₀ v : TrieRow K) → v.key ≡ (get_or longer q d₀).key → v.place ≡ (get_or longer q d₀).place → v.right ≡ (get_or longer q d₀).right → v.left ≡ 16777216 + n → Grafted spelling t k (set longer q v) t.root
+    pub at_left : (q : ℕ) → h.slot ≡ Left q → (d₀ v : TrieRow K) → v.key ≡ (get_or longer q d₀).key → v.place ≡ (get_or longer q d₀).place → v.right ≡ (get_or longer q d₀).right → link_number v.left ≡ 4294967296 + n → Grafted spelling t k (set longer q v) (link_number t.root)
     at_left q e d₀ v a b c l =
         let s = left_at q e in
-        at_side false q s d₀ v a b c l (subst (Turned (child rows) (crits rows) n t.root (child (set longer q v)) t.root (16777216 + n)) (sym e) (is_turned false q s d₀ v a b c l))
+        at_side false q s d₀ v a b (ap link_number c) l (subst (Turned (child rows) (crits rows) n (link_number t.root) (child (set longer q v)) (link_number t.root) (4294967296 + n)) (sym e) (is_turned false q s d₀ v a b (ap link_number c) l))
 
-    pub at_right : (q : ℕ) → h.slot ≡ Right q → (d₀ v : TrieRow K) → v.key ≡ (get_or longer q d₀).key → v.place ≡ (get_or longer q d₀).place → v.left ≡ (get_or longer q d₀).left → v.right ≡ 16777216 + n → Grafted spelling t k (set longer q v) t.root
+    pub at_right : (q : ℕ) → h.slot ≡ Right q → (d₀ v : TrieRow K) → v.key ≡ (get_or longer q d₀).key → v.place ≡ (get_or longer q d₀).place → v.left ≡ (get_or longer q d₀).left → link_number v.right ≡ 4294967296 + n → Grafted spelling t k (set longer q v) (link_number t.root)
     at_right q e d₀ v a b c l =
         let s = right_at q e in
-        at_side true q s d₀ v a b c l (subst (Turned (child rows) (crits rows) n t.root (child (set longer q v)) t.root (16777216 + n)) (sym e) (is_turned true q s d₀ v a b c l))
+        at_side true q s d₀ v a b (ap link_number c) l (subst (Turned (child rows) (crits rows) n (link_number t.root) (child (set longer q v)) (link_number t.root) (4294967296 + n)) (sym e) (is_turned true q s d₀ v a b (ap link_number c) l))

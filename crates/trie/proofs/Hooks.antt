@@ -1,14 +1,16 @@
 -- The way to where a new inner node belongs, step by step. Assumes nothing.
 use Rattle.std.proofs.Common.{◌≡◌, ℕ, ◌+◌, ◌-◌, ◌<◌, ◌≤◌, Bool, true, false, List, get_or, Some, None, Option, sym, refl, ap, ◌∙◌, subst, arith}
 use Rattle.trie.specs.Bits.{number}
-use Rattle.trie.specs.Trie.{Under, go, Good, SideAt, SlotAt, SideTurned, Turned, Way, Passes, Hooked, side, child, crits}
+use Rattle.trie.specs.Trie.{Under, go, Good, SideAt, SlotAt, SideTurned, Turned, Way, Passes, Hooked, link_number, side, child, crits}
 use Rattle.trie.specs.declared.patricia.Trie.{Trie}
 use Rattle.trie.specs.declared.row.Hook.{Hook}
+use Rattle.trie.specs.declared.row.Link.{Link}
+use Rattle.trie.specs.declared.row.Link.TheVariants.{Leaf, Inner}
 use Rattle.trie.specs.declared.row.TrieRow.{TrieRow}
 use Rattle.dictionary.specs.declared.rows.Slot.{Slot}
 use Rattle.dictionary.specs.declared.rows.Slot.TheVariants.{Root, Left, Right}
 use Rattle.trie.specs.TrieFacts.{goods}
-use Rattle.trie.proofs.Steps.{node, crit_is, side_is, good_on, step_on}
+use Rattle.trie.proofs.Steps.{inner, m_is, node, crit_is, side_is, good_on, step_on}
 
 module _ (child : Bool → ℕ → ℕ) (crit : ℕ → ℕ) (n root : ℕ) (x : ℕ → Bool) (d : ℕ) where
   -- the link that the way has come to
@@ -19,13 +21,13 @@ module _ (child : Bool → ℕ → ℕ) (crit : ℕ → ℕ) (n root : ℕ) (x :
     pub passes : Passes child crit n root x here
 
   module _ (goods : (b : Bool) (p : ℕ) → (0 < p) × (p < n) → Good crit n (crit p + 1) (child b p)) where
-    side_later : (p : ℕ) (b : Bool) (l : ℕ) → SideAt child crit n root x d b p l → 16777216 ≤ l → crit p < crit (l - 16777216)
+    side_later : (p : ℕ) (b : Bool) (l : ℕ) → SideAt child crit n root x d b p l → 4294967296 ≤ l → crit p < crit (l - 4294967296)
     side_later p b l s h = let g = subst (Good crit n (crit p + 1)) s.2 (goods b p (s.0, s.1)) in omega (arith, g.3 h)
 
     -- one slot on, to a side of the inner node m at the link
-    module _ (here : ℕ) (inner : 16777216 ≤ here) where
+    module _ (here : ℕ) (inner : 4294967296 ≤ here) where
       abbrev m : ℕ
-      m = here - 16777216
+      m = here - 4294967296
 
       module _ (child' : Bool → ℕ → ℕ) (root' new : ℕ) (b : Bool) (turned : SideTurned child crit n root child' root' new b m) where
         turned_side : (c : Bool) (p : ℕ) → SideAt child crit n root x d c p here → SideTurned child crit n root child' root' here c p
@@ -53,43 +55,46 @@ module _ {K : Type 0} (t : Trie K) (x : ℕ → Bool) (d : ℕ) where
   rows = t.rows.now
 
   abbrev pub Hooks : Slot → ℕ → Type 0
-  Hooks = Hooking (child rows) (crits rows) t.used t.root x d
+  Hooks = Hooking (child rows) (crits rows) t.used (link_number t.root) x d
 
   abbrev Found : Option Hook → Type 0
-  Found = Hooked (child rows) (crits rows) t.used t.root x d
+  Found = Hooked (child rows) (crits rows) t.used (link_number t.root) x d
 
-  pub hook_start : 0 < t.used → Hooks Root t.root
+  pub hook_start : 0 < t.used → Hooks Root (link_number t.root)
   hook_start some = record { good = t.rooted some; at = refl; way = λ child' root' new i turned u. subst (Under child' i) (sym turned) u; passes = λ j e. e }
 
-  pub hook_leaf : (slot : Slot) (here : ℕ) → here < 16777216 → Hooks slot here → Found (Some (record { slot = slot; link = here }))
-  hook_leaf slot here leaf h = ((h.good.0, h.good.1, h.good.2, λ q. absurd (omega arith)), h.at, h.way, h.passes)
+  pub hook_leaf : (slot : Slot) (l : Link) (i : ℕ) → l ≡ Leaf i → i < 4294967296 → Hooks slot (link_number l) → Found (Some (record { slot = slot; link = Leaf i }))
+  hook_leaf slot l i e leaf h = let is = ap link_number e in subst (λ q. Found (Some (record { slot = slot; link = q }))) e ((h.good.0, h.good.1, h.good.2, λ q. absurd (omega arith)), h.at, h.way, h.passes)
 
-  module _ (slot : Slot) (here : ℕ) (w : TrieRow K) (inner : 16777216 ≤ here) (is : w ≡ get_or rows (here - 16777216) w) (h : Hooks slot here) where
-    crit : crits rows (here - 16777216) ≡ number w.place
-    crit = crit_is t x here w inner is h.good
+  module _ (slot : Slot) (l : Link) (i : ℕ) (w : TrieRow K) (e : l ≡ Inner i) (is : w ≡ get_or rows i w) (h : Hooks slot (link_number l)) where
+    abbrev here : ℕ
+    here = link_number l
 
-    pub hook_there : d < number w.place → Found (Some (record { slot = slot; link = here }))
-    hook_there later = ((h.good.0, h.good.1, h.good.2, λ q. let c = crit in omega arith), h.at, h.way, h.passes)
+    crit : crits rows (here - 4294967296) ≡ number w.place
+    crit = crit_is t x here i w (ap link_number e) is h.good
+
+    pub hook_there : d < number w.place → Found (Some (record { slot = slot; link = Inner i }))
+    hook_there later = subst (λ q. Found (Some (record { slot = slot; link = q }))) e ((h.good.0, h.good.1, h.good.2, λ q. let c = crit in omega arith), h.at, h.way, h.passes)
 
     pub hook_same : number w.place ≡ d → Found None
-    hook_same same = (here, inner, h.good, crit ∙ same, h.passes)
+    hook_same same = (here, inner t x here i w (ap link_number e) is h.good, h.good, crit ∙ same, h.passes)
 
-    side_at : (b : Bool) → number w.place < d → x (number w.place) ≡ b → SideAt (child rows) (crits rows) t.used t.root x d b (here - 16777216) (side b w)
-    side_at b early e =
-        let q = node t x here w inner is h.good in
+    side_at : (b : Bool) → number w.place < d → x (number w.place) ≡ b → SideAt (child rows) (crits rows) t.used (link_number t.root) x d b (here - 4294967296) (side b w)
+    side_at b early e₁ =
+        let q = node t x here i w (ap link_number e) is h.good in
         let c = crit in
-        (q.0, q.1, side_is t x here w inner is h.good b, omega arith, ap x crit ∙ e)
+        (q.0, q.1, side_is t x here i w (ap link_number e) is h.good b, omega arith, ap x crit ∙ e₁)
 
-    on : (b : Bool) (slot' : Slot) → x (number w.place) ≡ b → SlotAt (child rows) (crits rows) t.used t.root x d slot' (side b w) → Way (child rows) (crits rows) t.used t.root slot' → Hooks slot' (side b w)
-    on b slot' e at way = record {
-      good = good_on t x here w inner is h.good b;
+    on : (b : Bool) (slot' : Slot) → x (number w.place) ≡ b → SlotAt (child rows) (crits rows) t.used (link_number t.root) x d slot' (side b w) → Way (child rows) (crits rows) t.used (link_number t.root) slot' → Hooks slot' (side b w)
+    on b slot' e₁ at way = record {
+      good = good_on t x here i w (ap link_number e) is h.good b;
       at = at;
       way = way;
-      passes = λ j r. step_on t x here w inner is h.good b e j (h.passes j r);
+      passes = λ j r. step_on t x here i w (ap link_number e) is h.good b e₁ j (h.passes j r);
     }
 
-    pub hook_left : number w.place < d → x (number w.place) ≡ false → Hooks (Left (here - 16777216)) w.left
-    hook_left early e = on false _ e (side_at false early e) (way_left (child rows) (crits rows) t.used t.root x d (goods rows t.used (t.lefts, t.rights)) here inner slot h.at h.way)
+    pub hook_left : number w.place < d → x (number w.place) ≡ false → Hooks (Left i) (side false w)
+    hook_left early e₁ = subst (λ q. Hooks (Left q) (side false w)) (m_is t x here i w (ap link_number e) is h.good) (on false _ e₁ (side_at false early e₁) (way_left (child rows) (crits rows) t.used (link_number t.root) x d (goods rows t.used (t.lefts, t.rights)) here (inner t x here i w (ap link_number e) is h.good) slot h.at h.way))
 
-    pub hook_right : number w.place < d → x (number w.place) ≡ true → Hooks (Right (here - 16777216)) w.right
-    hook_right early e = on true _ e (side_at true early e) (way_right (child rows) (crits rows) t.used t.root x d (goods rows t.used (t.lefts, t.rights)) here inner slot h.at h.way)
+    pub hook_right : number w.place < d → x (number w.place) ≡ true → Hooks (Right i) (side true w)
+    hook_right early e₁ = subst (λ q. Hooks (Right q) (side true w)) (m_is t x here i w (ap link_number e) is h.good) (on true _ e₁ (side_at true early e₁) (way_right (child rows) (crits rows) t.used (link_number t.root) x d (goods rows t.used (t.lefts, t.rights)) here (inner t x here i w (ap link_number e) is h.good) slot h.at h.way))

@@ -1,25 +1,30 @@
--- A crit-bit trie over rows. Row i, counted from 0, is leaf i and, but for the first, inner node i. A link below 2 ^ 24
--- is a leaf; another is 2 ^ 24 more than its inner node. An inner node tests one bit: on its left (false) lie the keys
--- that have it 0, on its right (true) those that have it 1. Assumes nothing.
+-- A crit-bit trie over rows. Row i, counted from 0, is leaf i and, but for the first, inner node i. As a number, a link to
+-- a leaf is its row, below 2 ^ 32, and one to an inner node is 2 ^ 32 more than its row. An inner node tests one bit: on
+-- its left (false) lie the keys that have it 0, on its right (true) those that have it 1. Assumes nothing.
 --     Under     a leaf lies under a link
 --     Ends      where the walk for some bits ends
 --     Good      a link to a leaf, or to an inner node that tests a late enough bit
 --     Node      what an inner node says of the leaves under it
 --     Sorted    all nodes do, and each leaf lies under the root
-use Rattle.std.specs.Prelude.{◌≡◌, ℕ, ◌+◌, ◌-◌, ◌<◌, ◌≤◌, Bool, true, false, List, [], map, Some, None, Option, slice_index_or}
+use Rattle.std.specs.Prelude.{◌≡◌, ℕ, ◌+◌, ◌-◌, ◌<◌, ◌≤◌, Bool, true, false, List, [], map, Some, None, Ok, Err, Option, Result, slice_index_or}
 use Rattle.std.specs.List.{slice_get}
 use Rattle.trie.specs.Bits.{bit, number, PartAt}
 use Rattle.dictionary.specs.Rows.{held, column}
 use Rattle.trie.specs.declared.row.TrieRow.{TrieRow}
-use Rattle.trie.specs.declared.row.Met.{Met}
-use Rattle.trie.specs.declared.row.Met.TheVariants.{Here, Apart, Nothing}
+use Rattle.trie.specs.declared.place.Place.{Place}
+use Rattle.trie.specs.declared.row.Link.{Link}
+use Rattle.trie.specs.declared.row.Link.TheVariants.{Leaf, Inner}
 use Rattle.dictionary.specs.declared.rows.Slot.{Slot}
 use Rattle.dictionary.specs.declared.rows.Slot.TheVariants.{Root, Left, Right}
 use Rattle.trie.specs.declared.row.Hook.{Hook}
 
+abbrev pub link_number : Link → ℕ
+link_number (Leaf i) = i
+link_number (Inner i) = i + 4294967296
+
 -- a link to one of n rows, and to an inner node only if that tests the bit `low` or a later one
 abbrev pub Good : (ℕ → ℕ) → ℕ → ℕ → ℕ → Type 0
-Good crit n low l = (l < 16777216 → l < n) × (16777216 ≤ l → 0 < l - 16777216) × (16777216 ≤ l → l - 16777216 < n) × (16777216 ≤ l → low ≤ crit (l - 16777216))
+Good crit n low l = (l < 4294967296 → l < n) × (4294967296 ≤ l → 0 < l - 4294967296) × (4294967296 ≤ l → l - 4294967296 < n) × (4294967296 ≤ l → low ≤ crit (l - 4294967296))
 
 -- the links of the inner nodes on one side lead to later bits
 abbrev pub Goods : (ℕ → ℕ) → ℕ → (ℕ → ℕ) → Type 0
@@ -28,18 +33,18 @@ Goods crit n link = (m : ℕ) → (0 < m) × (m < n) → Good crit n (crit m + 1
 module _ (child : Bool → ℕ → ℕ) where
   -- the leaf i lies under the link
   pub data Under (i : ℕ) : ℕ → Type 0 where
-    at : (l : ℕ) → l < 16777216 → l ≡ i → Under i l
-    go : (b : Bool) (l : ℕ) → 16777216 ≤ l → Under i (child b (l - 16777216)) → Under i l
+    at : (l : ℕ) → l < 4294967296 → l ≡ i → Under i l
+    go : (b : Bool) (l : ℕ) → 4294967296 ≤ l → Under i (child b (l - 4294967296)) → Under i l
 
   module _ (crit : ℕ → ℕ) where
     -- the walk for the bits x from the link ends at the leaf j
     pub data Ends (x : ℕ → Bool) (j : ℕ) : ℕ → Type 0 where
-      ends_at : (l : ℕ) → l < 16777216 → l ≡ j → Ends x j l
-      ends_on : (l : ℕ) → 16777216 ≤ l → Ends x j (child (x (crit (l - 16777216))) (l - 16777216)) → Ends x j l
+      ends_at : (l : ℕ) → l < 4294967296 → l ≡ j → Ends x j l
+      ends_on : (l : ℕ) → 4294967296 ≤ l → Ends x j (child (x (crit (l - 4294967296))) (l - 4294967296)) → Ends x j l
 
     pub record Node (bits : ℕ → ℕ → Bool) (m : ℕ) : Type 0 where
       pub on : (b : Bool) (i : ℕ) → Under i (child b m) → bits i (crit m) ≡ b
-      pub alike : (i j : ℕ) → Under i (16777216 + m) → Under j (16777216 + m) → (t : ℕ) → t < crit m → bits i t ≡ bits j t
+      pub alike : (i j : ℕ) → Under i (4294967296 + m) → Under j (4294967296 + m) → (t : ℕ) → t < crit m → bits i t ≡ bits j t
 
     pub record Sorted (bits : ℕ → ℕ → Bool) (n root : ℕ) : Type 0 where
       pub nodes : (m : ℕ) → (0 < m) × (m < n) → Node bits m
@@ -82,13 +87,13 @@ module _ (child : Bool → ℕ → ℕ) (crit : ℕ → ℕ) (n root : ℕ) wher
 
   -- the hook for d, or an inner node on the way that tests d itself
   abbrev pub Hooked : (ℕ → Bool) → ℕ → Option Hook → Type 0
-  Hooked x d (Some h) = Good crit n (d + 1) h.link × SlotAt x d h.slot h.link × Way h.slot × Passes x h.link
-  Hooked x d None = (l : ℕ) × (16777216 ≤ l) × Good crit n 0 l × (crit (l - 16777216) ≡ d) × Passes x l
+  Hooked x d (Some h) = Good crit n (d + 1) (link_number h.link) × SlotAt x d h.slot (link_number h.link) × Way h.slot × Passes x (link_number h.link)
+  Hooked x d None = (l : ℕ) × (4294967296 ≤ l) × Good crit n 0 l × (crit (l - 4294967296) ≡ d) × Passes x l
 
 -- the same of rows as the code has them
 abbrev pub side : {K : Type 0} → Bool → TrieRow K → ℕ
-side false w = w.left
-side true w = w.right
+side false w = link_number w.left
+side true w = link_number w.right
 
 module _ {K : Type 0} (rows : List (TrieRow K)) where
   abbrev pub keys : ℕ → List K
@@ -115,7 +120,7 @@ module _ {K : Type 0} (rows : List (TrieRow K)) where
   PartsFrom spelling n root k d = (j : ℕ) × (j < n) × Ends child crits (bit (spelling k)) j root × PartAt (bit (spelling k)) (bits_of spelling (keys n) j) d
 
   -- what a look-up meets: the key itself, another key from which it first differs at a place, or an empty trie
-  abbrev pub Meets : (K → List ℕ) → ℕ → ℕ → K → Met → Type 0
-  Meets spelling n root k (Here i) = (i < n) × (slice_get (keys n) i ≡ Some k)
-  Meets spelling n root k (Apart p) = PartsFrom spelling n root k (number p)
-  Meets spelling n root k Nothing = n ≡ 0
+  abbrev pub Meets : (K → List ℕ) → ℕ → ℕ → K → Result ℕ (Option Place) → Type 0
+  Meets spelling n root k (Ok i) = (i < n) × (slice_get (keys n) i ≡ Some k)
+  Meets spelling n root k (Err (Some p)) = PartsFrom spelling n root k (number p)
+  Meets spelling n root k (Err None) = n ≡ 0

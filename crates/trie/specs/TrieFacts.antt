@@ -14,7 +14,7 @@ module _ (crit : ℕ → ℕ) (child : Bool → ℕ → ℕ) (bits : ℕ → ℕ
   one_leaf i l (at l₁ h e) j (go b l₂ h' u) low good same = absurd (omega arith)
   one_leaf i l (go b l₁ h u) j (at l₂ h' e') low good same = absurd (omega arith)
   one_leaf i l (go b l₁ h u) j (go c l₂ h' v) low good same =
-      let m = l - 16777216 in
+      let m = l - 4294967296 in
       let node = nodes m (good.1 h, good.2 h) in
       let e : c ≡ b = sym (node.on c j v) ∙ sym (same (crit m)) ∙ node.on b i u in
       one_leaf i _ u j (subst (λ q. Under child j (child q m)) e v) _ (goods b m (good.1 h, good.2 h)) same

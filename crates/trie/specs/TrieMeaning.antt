@@ -2,7 +2,7 @@
 use Rattle.std.specs.Prelude.{◌≡◌, ℕ, not, List, length}
 use Rattle.dictionary.specs.Meaning.{Meaning, meaning, most}
 use Rattle.trie.specs.Bits.{bit, number}
-use Rattle.trie.specs.Trie.{keys, side, InPlace}
+use Rattle.trie.specs.Trie.{keys, link_number, side, InPlace}
 use Rattle.trie.specs.declared.patricia.Trie.{Trie}
 use Rattle.trie.specs.declared.place.Place.{Place}
 use Rattle.trie.specs.declared.row.Hook.{Hook}
@@ -14,7 +14,7 @@ module _ {K : Type 0} where
 
   -- the inner nodes part the keys by their bits, and each key lies under the root
   abbrev pub Sound : (K → List ℕ) → Trie K → Type 0
-  Sound spelling t = InPlace t.rows.now spelling t.used t.root
+  Sound spelling t = InPlace t.rows.now spelling t.used (link_number t.root)
 
 -- a row for the next key, k: its leaf, and an inner node that tests the place, with the leaf on the key's own side and
 -- the hook's link on the other
@@ -22,4 +22,4 @@ pub record Forks {K : Type 0} (spelling : K → List ℕ) (t : Trie K) (k : K) (
   pub key : w.key ≡ k
   pub place : w.place ≡ p
   pub own : side (bit (spelling k) (number p)) w ≡ t.used
-  pub other : side (not (bit (spelling k) (number p))) w ≡ h.link
+  pub other : side (not (bit (spelling k) (number p))) w ≡ link_number h.link

@@ -4,11 +4,12 @@ ghost use Rattle.dictionary.specs.Does.{Does};
 ghost use Rattle.dictionary.specs.Facts.{different_from, held_within, most_small, within_rows};
 ghost use Rattle.dictionary.specs.Meaning.{new, finding, naming, keying};
 ghost use Rattle.dictionary.specs.Rows.{beyond};
+ghost use Rattle.trie.specs.Trie.{link_number};
 ghost use Rattle.trie.specs.TrieFacts.{one_place};
 ghost use Rattle.trie.specs.TrieMeaning.{meaning_of, Sound};
 
 use crate::patricia::Trie;
-use crate::row::{Met, TrieRow};
+use crate::row::{Link, TrieRow};
 use dictionary::Dictionary;
 use dictionary::asks::one_more;
 use dictionary::key::Key;
@@ -27,7 +28,7 @@ impl<'a, K: Key> Trie<'a, K> {
         Trie {
             rows,
             used: 0,
-            root: 0,
+            root: Link::Leaf(0),
             asks: 0,
         }
     }
@@ -38,7 +39,7 @@ impl<'a, K: Key> Dictionary<K> for Trie<'a, K> {
 
     ghost sound = { Sound K.Key.spelling };
 
-    ghost different = { λ t s. different_from (meaning_of t).keys (one_place K.Key.spelling t.rows.now t.used t.root (within_rows t.long) (t.lefts, t.rights) t.rooted s) };
+    ghost different = { λ t s. different_from (meaning_of t).keys (one_place K.Key.spelling t.rows.now t.used (link_number t.root) (within_rows t.long) (t.lefts, t.rights) t.rooted s) };
 
     ghost within = { λ t. held_within (λ w. w.key) t.rows.now t.used t.long };
 
@@ -64,10 +65,7 @@ impl<'a, K: Key> Dictionary<K> for Trie<'a, K> {
         ensures lent { self.new.rows.ghost_name ≡ self.old.rows.ghost_name }
     {
         self.asks = one_more(self.asks);
-        match self.look(k) {
-            Met::Here(i) => Some(i + 1),
-            _ => None,
-        }
+        self.look(k).ok().map(|i| i + 1)
     }
 
     fn name(&mut self, k: &K) -> Result<u32, Full>
@@ -77,9 +75,9 @@ impl<'a, K: Key> Dictionary<K> for Trie<'a, K> {
     {
         self.asks = one_more(self.asks);
         match self.look(k) {
-            Met::Here(i) => Ok(i + 1),
-            Met::Apart(place) => self.insert(k, place),
-            Met::Nothing => self.first(k),
+            Ok(i) => Ok(i + 1),
+            Err(Some(place)) => self.insert(k, place),
+            Err(None) => self.first(k),
         }
     }
 

@@ -4,13 +4,13 @@ ghost use Rattle.trie.specs.Bits.{bit, number};
 ghost use Rattle.dictionary.specs.Does.{Does};
 ghost use Rattle.dictionary.specs.Meaning.{append, most};
 ghost use Rattle.dictionary.specs.Rows.{beyond};
-ghost use Rattle.trie.specs.Trie.{Hooked, PartsFrom, child, crits};
+ghost use Rattle.trie.specs.Trie.{Hooked, PartsFrom, child, crits, link_number};
 ghost use Rattle.trie.specs.TrieMeaning.{Forks, meaning_of, Sound};
 
 use crate::bits::bit_at;
 use crate::patricia::Trie;
 use crate::place::Place;
-use crate::row::{Hook, TrieRow};
+use crate::row::{Hook, Link, TrieRow};
 use dictionary::key::Key;
 use dictionary::refusals::Full;
 use dictionary::rows::{Slot, capacity_over};
@@ -22,7 +22,7 @@ impl<'a, K: Key> Trie<'a, K> {
         ensures { Forks K.Key.spelling self.now k.now place hook result }
     {
         let key = *k;
-        let leaf = self.used as u32;
+        let leaf = Link::Leaf(self.used as u32);
         let (left, right) = if bit_at(k, place) {
             (hook.link, leaf)
         } else {
@@ -39,13 +39,13 @@ impl<'a, K: Key> Trie<'a, K> {
     /// Hangs a row for the key, which first differs at the place from the keys that it meets.
     fn graft(&mut self, k: &K, place: Place, hook: Hook)
         requires room { self.old.used < most (length self.old.rows.now) }
-        requires parts { PartsFrom self.old.rows.now K.Key.spelling self.old.used self.old.root k.now (number place) }
-        requires hooked { Hooked (child self.old.rows.now) (crits self.old.rows.now) self.old.used self.old.root (bit (K.Key.spelling k.now)) (number place) (Some hook) }
+        requires parts { PartsFrom self.old.rows.now K.Key.spelling self.old.used (link_number self.old.root) k.now (number place) }
+        requires hooked { Hooked (child self.old.rows.now) (crits self.old.rows.now) self.old.used (link_number self.old.root) (bit (K.Key.spelling k.now)) (number place) (Some hook) }
         ensures does { Does meaning_of (Sound K.Key.spelling) self.old self.new (Ok (self.old.used + 1)) (append k.now) }
         ensures beyond { beyond self.new.rows.now ≡ beyond self.old.rows.now }
         ensures lent { self.new.rows.ghost_name ≡ self.old.rows.ghost_name }
     {
-        let node = self.used as u32 + 16_777_216;
+        let node = Link::Inner(self.used as u32);
         self.rows[self.used] = self.fork(k, place, hook);
         self.used += 1;
         match hook.slot {
@@ -67,13 +67,13 @@ impl<'a, K: Key> Trie<'a, K> {
         }
         self.rows[0] = TrieRow::blank(*k);
         self.used = 1;
-        self.root = 0;
+        self.root = Link::Leaf(0);
         Ok(1)
     }
 
     /// Appends a key that first differs at the place from the one that its walk met, if there is room.
     pub(crate) fn insert(&mut self, k: &K, place: Place) -> Result<u32, Full>
-        requires { PartsFrom self.old.rows.now K.Key.spelling self.old.used self.old.root k.now (number place) }
+        requires { PartsFrom self.old.rows.now K.Key.spelling self.old.used (link_number self.old.root) k.now (number place) }
         ensures does { Does meaning_of (Sound K.Key.spelling) self.old self.new result (append k.now) }
         ensures beyond { beyond self.new.rows.now ≡ beyond self.old.rows.now }
         ensures lent { self.new.rows.ghost_name ≡ self.old.rows.ghost_name }

@@ -2,11 +2,12 @@
 ghost use Rattle.std.specs.Prelude.{◌≡◌, ◌<◌};
 ghost use Rattle.dictionary.specs.Meaning.{key_of, or_absent};
 ghost use Rattle.trie.specs.Bits.{bit};
-ghost use Rattle.trie.specs.Trie.{Ends, Meets, child, crits, keys};
+ghost use Rattle.trie.specs.Trie.{Ends, Meets, child, crits, keys, link_number};
 
 use crate::bits::{bit_at, parting};
 use crate::patricia::Trie;
-use crate::row::Met;
+use crate::place::Place;
+use crate::row::Link;
 use dictionary::key::Key;
 use dictionary::refusals::Absent;
 use dictionary::rows::key_in;
@@ -16,34 +17,40 @@ impl<'a, K: Key> Trie<'a, K> {
     fn seek(&self, k: &K) -> u32
         requires { 0 < self.now.used }
         ensures within { result < self.now.used }
-        ensures ends { Ends (child self.now.rows.now) (crits self.now.rows.now) (bit (K.Key.spelling k.now)) result self.now.root }
+        ensures ends { Ends (child self.now.rows.now) (crits self.now.rows.now) (bit (K.Key.spelling k.now)) result (link_number self.now.root) }
     {
         let rows = &*self.rows;
         let mut at = self.root;
-        while at >= 16_777_216 {
-            let i = at - 16_777_216;
-            let row = &rows[i as usize];
-            if bit_at(k, row.place) {
-                at = row.right;
-            } else {
-                at = row.left;
+        loop {
+            match at {
+                Link::Leaf(i) => {
+                    return i;
+                }
+                Link::Inner(i) => {
+                    let row = &rows[i as usize];
+                    if bit_at(k, row.place) {
+                        at = row.right;
+                    } else {
+                        at = row.left;
+                    }
+                }
             }
         }
-        at
     }
 
-    /// What the walk for the key meets: one whole key is compared at its end.
-    pub(crate) fn look(&self, k: &K) -> Met
-        ensures { Meets self.now.rows.now K.Key.spelling self.now.used self.now.root k.now result }
+    /// The row that has the key: the walk for it ends there, where one whole key is compared. Or the first place in which it
+    /// differs from the key that it meets, if any.
+    pub(crate) fn look(&self, k: &K) -> Result<u32, Option<Place>>
+        ensures { Meets self.now.rows.now K.Key.spelling self.now.used (link_number self.now.root) k.now result }
     {
         if self.used == 0 {
-            return Met::Nothing;
+            return Err(None);
         }
         let leaf = self.seek(k);
         let rows = &*self.rows;
         match parting(k, &rows[leaf as usize].key) {
-            None => Met::Here(leaf),
-            Some(place) => Met::Apart(place),
+            None => Ok(leaf),
+            Some(place) => Err(Some(place)),
         }
     }
 

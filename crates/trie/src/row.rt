@@ -1,30 +1,37 @@
-// The rows of a trie, and what is met on a walk through it.
+// The rows of a trie, and the links between them.
 ghost use Rattle.std.specs.Prelude.{◌≡◌};
+ghost use Rattle.trie.specs.declared.row.Link.TheVariants.{Leaf};
 
 use crate::place::Place;
 use dictionary::key::Key;
 use dictionary::rows::{Row, Slot};
 
-/// A key, and an inner node that tests the bit at a place. Row i is leaf i and, but for the first, inner node i; rows
-/// count from 0 here. A link below 2^24 is a leaf, another is 2^24 more than its inner node.
+/// A link to a row: to its leaf, which is its key, or to its inner node. Rows count from 0 here.
+#[derive(Clone, Copy, Debug, PartialEq, Eq)]
+pub(crate) enum Link {
+    Leaf(u32),
+    Inner(u32),
+}
+
+/// A key, and an inner node that tests the bit at a place. Each row but the first is an inner node too.
 #[derive(Clone, Copy)]
 pub struct TrieRow<K> {
     pub(crate) key: K,
     pub(crate) place: Place,
-    pub(crate) left: u32,
-    pub(crate) right: u32,
+    pub(crate) left: Link,
+    pub(crate) right: Link,
 }
 
 impl<K: Key> TrieRow<K> {
     /// A row to hand in: what it holds does not matter.
     pub fn blank(key: K) -> TrieRow<K>
-        ensures { (result.key ≡ key) × (result.place.byte ≡ 0) × (result.place.bit ≡ 0) × (result.left ≡ 0) × (result.right ≡ 0) }
+        ensures { (result.key ≡ key) × (result.place.byte ≡ 0) × (result.place.bit ≡ 0) × (result.left ≡ Leaf 0) × (result.right ≡ Leaf 0) }
     {
         TrieRow {
             key,
             place: Place { byte: 0, bit: 0 },
-            left: 0,
-            right: 0,
+            left: Link::Leaf(0),
+            right: Link::Leaf(0),
         }
     }
 }
@@ -37,17 +44,9 @@ impl<K: Key> Row<K> for TrieRow<K> {
     }
 }
 
-/// What a look-up meets: the key itself, another key from which it first differs at a place, or an empty trie.
-#[derive(Clone, Copy)]
-pub(crate) enum Met {
-    Here(u32),
-    Apart(Place),
-    Nothing,
-}
-
 /// Where a new inner node is hung: the slot, and the link that stands in it.
 #[derive(Clone, Copy)]
 pub(crate) struct Hook {
     pub(crate) slot: Slot,
-    pub(crate) link: u32,
+    pub(crate) link: Link,
 }

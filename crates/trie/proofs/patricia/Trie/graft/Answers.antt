@@ -7,10 +7,10 @@ pub offset_bounds-self-self : goal.offset_bounds-self-self
 offset_bounds-self-self g c = let h : c.args.self.now.used < length c.args.self.now.rows.now = omega (arith, c.requires.room) in search rules
 
 pub invariant_of-self : goal.invariant_of-self
-invariant_of-self g c = let l = (at_root c.fork.ensures c.requires.room c.requires.parts c.requires.hooked c.in-Root.is (c.args.self.now.used + 16777216) (omega arith)).links in record { long = l.long; counted = c.args.self.now.counted; lefts = l.lefts; rights = l.rights; rooted = λ _. l.rooted }
+invariant_of-self g c = let l = (at_root c.fork.ensures c.requires.room c.requires.parts c.requires.hooked c.in-Root.is (c.args.self.now.used + 4294967296) (omega arith)).links in record { long = l.long; counted = c.args.self.now.counted; lefts = l.lefts; rights = l.rights; rooted = λ _. l.rooted }
 
 pub returns-in-Root : goal.returns-in-Root
-returns-in-Root g c = let r = at_root c.fork.ensures c.requires.room c.requires.parts c.requires.hooked c.in-Root.is (c.args.self.now.used + 16777216) (omega arith) in record { does = r.does; beyond = r.rest; lent = refl }
+returns-in-Root g c = let r = at_root c.fork.ensures c.requires.room c.requires.parts c.requires.hooked c.in-Root.is (c.args.self.now.used + 4294967296) (omega arith) in record { does = r.does; beyond = r.rest; lent = refl }
 
 pub invariant_of-self-in-Left-1 : goal.invariant_of-self-in-Left-1
 invariant_of-self-in-Left-1 g c = let l = planted c.fork.ensures c.requires.room c.requires.parts c.requires.hooked in record { long = l.long; counted = c.args.self.now.counted; lefts = l.lefts; rights = l.rights; rooted = λ _. l.rooted }

@@ -1,10 +1,11 @@
 use Rattle.trie.specs.Bits.{bit, number}
+use Rattle.trie.specs.Trie.{link_number}
 use Rattle.trie.proofs.Hooks.{Hooks}
 use Rattle.trie.proofs.Steps.{to_go}
 use Rattle.trie.proofs.patricia.Trie.hook.Given as goal
 
 abbrev pub invariant-loop-at : goal.invariant-loop-at
-invariant-loop-at g l = Hooks l.self (bit (g.K.Key.spelling l.k)) (number l.place) l.slot l.at
+invariant-loop-at g l = Hooks l.self (bit (g.K.Key.spelling l.k)) (number l.place) l.slot (link_number l.at)
 
 abbrev pub decreases-loop-at : goal.decreases-loop-at
-decreases-loop-at g l = to_go l.self (bit (g.K.Key.spelling l.k)) l.at
+decreases-loop-at g l = to_go l.self (bit (g.K.Key.spelling l.k)) (link_number l.at)
