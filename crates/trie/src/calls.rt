@@ -76,8 +76,7 @@ impl<'a, K: Key> Dictionary<K> for Trie<'a, K> {
         self.asks = one_more(self.asks);
         match self.look(k) {
             Ok(i) => Ok(i + 1),
-            Err(Some(place)) => self.insert(k, place),
-            Err(None) => self.first(k),
+            Err(place) => self.insert(k, place),
         }
     }
 

@@ -1,10 +1,10 @@
 // One key more in a trie.
-ghost use Rattle.std.specs.Prelude.{◌≡◌, ◌+◌, ◌<◌, length, Ok, Some};
+ghost use Rattle.std.specs.Prelude.{◌≡◌, ◌+◌, ◌<◌, length, Ok, Err, Some};
 ghost use Rattle.trie.specs.Bits.{bit, number};
 ghost use Rattle.dictionary.specs.Does.{Does};
 ghost use Rattle.dictionary.specs.Meaning.{append, most};
 ghost use Rattle.dictionary.specs.Rows.{beyond};
-ghost use Rattle.trie.specs.Trie.{Hooked, PartsFrom, child, crits, link_number};
+ghost use Rattle.trie.specs.Trie.{Hooked, Meets, PartsFrom, child, crits, link_number};
 ghost use Rattle.trie.specs.TrieMeaning.{Forks, meaning_of, Sound};
 
 use crate::bits::bit_at;
@@ -55,25 +55,23 @@ impl<'a, K: Key> Trie<'a, K> {
         }
     }
 
-    /// Appends the first key, if there is room.
-    pub(crate) fn first(&mut self, k: &K) -> Result<u32, Full>
-        requires { self.old.used ≡ 0 }
-        ensures does { Does meaning_of (Sound K.Key.spelling) self.old self.new result (append k.now) }
+    /// Puts the first key into the first row.
+    fn plant(&mut self, k: &K)
+        requires room { 0 < most (length self.old.rows.now) }
+        requires empty { self.old.used ≡ 0 }
+        ensures does { Does meaning_of (Sound K.Key.spelling) self.old self.new (Ok (self.old.used + 1)) (append k.now) }
         ensures beyond { beyond self.new.rows.now ≡ beyond self.old.rows.now }
         ensures lent { self.new.rows.ghost_name ≡ self.old.rows.ghost_name }
     {
-        if capacity_over(self.rows.len()) == 0 {
-            return Err(Full { size: 0 });
-        }
         self.rows[0] = TrieRow::blank(*k);
         self.used = 1;
         self.root = Link::Leaf(0);
-        Ok(1)
     }
 
-    /// Appends a key that first differs at the place from the one that its walk met, if there is room.
-    pub(crate) fn insert(&mut self, k: &K, place: Place) -> Result<u32, Full>
-        requires { PartsFrom self.old.rows.now K.Key.spelling self.old.used (link_number self.old.root) k.now (number place) }
+    /// Appends a key that isn't there, if there is room: at the place where it first differs from the key that its walk met,
+    /// or as the first.
+    pub(crate) fn insert(&mut self, k: &K, place: Option<Place>) -> Result<u32, Full>
+        requires { Meets self.old.rows.now K.Key.spelling self.old.used (link_number self.old.root) k.now (Err place) }
         ensures does { Does meaning_of (Sound K.Key.spelling) self.old self.new result (append k.now) }
         ensures beyond { beyond self.new.rows.now ≡ beyond self.old.rows.now }
         ensures lent { self.new.rows.ghost_name ≡ self.old.rows.ghost_name }
@@ -82,10 +80,12 @@ impl<'a, K: Key> Trie<'a, K> {
         if self.used >= capacity_over(self.rows.len()) {
             return Err(Full { size });
         }
-        // A sound trie has no inner node on the way that tests the place itself: the promise shows that this is not met.
-        let Some(hook) = self.hook(k, place) else {
-            return Err(Full { size });
+        let Some(place) = place else {
+            self.plant(k);
+            return Ok(1);
         };
+        // A sound trie has no inner node on the way that tests the place itself: the promise shows that this is not met.
+        let hook = self.hook(k, place).ok_or(Full { size })?;
         self.graft(k, place, hook);
         Ok(size + 1)
     }

@@ -22,29 +22,28 @@ impl<'a, K: Key> Trie<'a, K> {
         let mut slot = Slot::Root;
         let mut at = self.root;
         loop {
-            match at {
+            let i = match at {
                 Link::Leaf(leaf) => {
                     let link = Link::Leaf(leaf);
                     return Some(Hook { slot, link });
                 }
-                Link::Inner(i) => {
-                    let row = &rows[i as usize];
-                    match row.place.cmp(&place) {
-                        Ordering::Equal => {
-                            return None;
-                        }
-                        Ordering::Greater => {
-                            return Some(Hook { slot, link: at });
-                        }
-                        Ordering::Less => {
-                            if bit_at(k, row.place) {
-                                slot = Slot::Right(i);
-                                at = row.right;
-                            } else {
-                                slot = Slot::Left(i);
-                                at = row.left;
-                            }
-                        }
+                Link::Inner(i) => i,
+            };
+            let row = &rows[i as usize];
+            match row.place.cmp(&place) {
+                Ordering::Equal => {
+                    return None;
+                }
+                Ordering::Greater => {
+                    return Some(Hook { slot, link: at });
+                }
+                Ordering::Less => {
+                    if bit_at(k, row.place) {
+                        slot = Slot::Right(i);
+                        at = row.right;
+                    } else {
+                        slot = Slot::Left(i);
+                        at = row.left;
                     }
                 }
             }

@@ -28,11 +28,7 @@ impl<'a, K: Key> Trie<'a, K> {
                 }
                 Link::Inner(i) => {
                     let row = &rows[i as usize];
-                    if bit_at(k, row.place) {
-                        at = row.right;
-                    } else {
-                        at = row.left;
-                    }
+                    at = row.side(bit_at(k, row.place));
                 }
             }
         }

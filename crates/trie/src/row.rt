@@ -1,5 +1,6 @@
 // The rows of a trie, and the links between them.
 ghost use Rattle.std.specs.Prelude.{◌≡◌};
+ghost use Rattle.trie.specs.Trie.{link_number, side};
 ghost use Rattle.trie.specs.declared.row.Link.TheVariants.{Leaf};
 
 use crate::place::Place;
@@ -33,6 +34,14 @@ impl<K: Key> TrieRow<K> {
             left: Link::Leaf(0),
             right: Link::Leaf(0),
         }
+    }
+}
+
+impl<K> TrieRow<K> {
+    pub(crate) fn side(&self, right: bool) -> Link
+        ensures { link_number result ≡ side right self.now }
+    {
+        if right { self.right } else { self.left }
     }
 }
 
