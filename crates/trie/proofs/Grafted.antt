@@ -102,16 +102,16 @@ module _ {K : Type 0} {spelling : K → List ℕ} {t : Trie K} {k : K} {p : Plac
       }
 
       old_goods : (b : Bool) → Goods (crits rows) n (child rows b)
-      old_goods = goods rows n (t.lefts, t.rights)
+      old_goods = goods t
 
       all_goods : (b : Bool) → Goods (crits rows') (n + 1) (child rows' b)
-      all_goods b = subst (λ q. Goods (crits rows') q (child rows' b)) (sym (add-one n)) (goods_grown n d L parts.0 (crits rows) (crits rows') (child rows) (child rows') bits bits' grown old_goods b)
+      all_goods b = subst (λ q. Goods (crits rows') q (child rows' b)) (sym (add-one n)) (goods_grown grown old_goods b)
 
       new_root : Good (crits rows') (suc n) 0 root'
       new_root =
           ⊎_elim
-          (λ e. subst (Good (crits rows') (suc n) 0) (sym e) (root_kept n d L parts.0 (crits rows) (crits rows') (child rows) (child rows') bits bits' grown old_goods (link_number t.root) (t.rooted some)))
-          (λ p. subst (Good (crits rows') (suc n) 0) (sym p.1) (root_new n d L parts.0 (crits rows) (crits rows') (child rows) (child rows') bits bits' grown old_goods))
+          (λ e. subst (Good (crits rows') (suc n) 0) (sym e) (root_kept grown old_goods (link_number t.root) (t.rooted some)))
+          (λ p. subst (Good (crits rows') (suc n) 0) (sym p.1) (root_new grown old_goods))
           root_is
 
       links : Links n rows' root'
@@ -126,18 +126,18 @@ module _ {K : Type 0} {spelling : K → List ℕ} {t : Trie K} {k : K} {p : Plac
       old_under i u =
           ⊎_elim
           (λ e. subst (Under (child rows') i) (sym e) u)
-          (λ p. subst (Under (child rows') i) (sym p.1) (into n d L parts.0 (crits rows) (crits rows') (child rows) (child rows') bits bits' grown old_goods i (subst (Under (child rows') i) p.0 u)))
+          (λ p. subst (Under (child rows') i) (sym p.1) (into grown old_goods i (subst (Under (child rows') i) p.0 u)))
           root_is
 
       module _ (turned : Turned (child rows) (crits rows) n (link_number t.root) (child rows') root' (4294967296 + n) h.slot) (is_held : keys rows' (n + 1) ≡ keys rows n ++ k ∷ []) (rest : drop (n + 1) rows' ≡ drop (n + 1) rows) where
         new_sorted : Sorted (child rows) (crits rows) bits n (link_number t.root) → Sorted (child rows') (crits rows') bits' (suc n) root'
         new_sorted s = record {
-          nodes = nodes_grown n d L parts.0 (crits rows) (crits rows') (child rows) (child rows') bits bits' grown old_goods s.nodes;
+          nodes = nodes_grown grown old_goods s.nodes;
           under = λ i h. ⊎_elim
-              (λ (old : i < n). old_under i (still n d L parts.0 (crits rows) (crits rows') (child rows) (child rows') bits bits' grown old_goods i (link_number t.root) (s.under i old) 0 (t.rooted some)))
+              (λ (old : i < n). old_under i (still grown old_goods i (link_number t.root) (s.under i old) 0 (t.rooted some)))
               (λ (new : n ≤ i).
               let is : n ≡ i = omega arith in
-              subst (λ q. Under (child rows') q root') is (hooked.2 (child rows') root' (4294967296 + n) n turned (new_under n d L parts.0 (crits rows) (crits rows') (child rows) (child rows') bits bits' grown old_goods)))
+              subst (λ q. Under (child rows') q root') is (hooked.2 (child rows') root' (4294967296 + n) n turned (new_under grown old_goods)))
               (cases_lt i n);
         }
 

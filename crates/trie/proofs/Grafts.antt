@@ -27,7 +27,7 @@ sides false false = inl refl
 unlike : (a c : Bool) → (a ≡ c → ⊥) → c ≡ not a
 unlike a c h = ⊎_elim (λ e. absurd (h (sym e))) (λ e. e) (sides c a)
 
-module _ (n d L j : ℕ) (crit crit' : ℕ → ℕ) (child child' : Bool → ℕ → ℕ) (bits bits' : ℕ → ℕ → Bool)
+module _ {n d L j : ℕ} {crit crit' : ℕ → ℕ} {child child' : Bool → ℕ → ℕ} {bits bits' : ℕ → ℕ → Bool}
     (g : Grown n d L j crit crit' child child' bits bits') (goods : (b : Bool) → Goods crit n (child b)) where
   -- the links stay good
   wider : (low l : ℕ) → Good crit n low l → Good crit' (suc n) low l

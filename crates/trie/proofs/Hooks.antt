@@ -1,5 +1,5 @@
 -- The way to where a new inner node belongs, step by step. Assumes nothing.
-use Rattle.std.proofs.Common.{◌≡◌, ℕ, ◌+◌, ◌-◌, ◌<◌, ◌≤◌, Bool, true, false, List, get_or, Some, None, Option, sym, refl, ap, ◌∙◌, subst, arith}
+use Rattle.std.proofs.Common.{◌≡◌, ℕ, ◌+◌, ◌-◌, ◌<◌, ◌≤◌, Bool, true, false, List, get_or, Some, None, Option, sym, ap, ◌∙◌, subst, arith}
 use Rattle.trie.specs.Bits.{number}
 use Rattle.trie.specs.Trie.{Under, go, Good, SideAt, SlotAt, SideTurned, Turned, Way, Passes, Hooked, link_number, side, child, crits}
 use Rattle.trie.specs.declared.patricia.Trie.{Trie}
@@ -60,9 +60,6 @@ module _ {K : Type 0} (t : Trie K) (x : ℕ → Bool) (d : ℕ) where
   abbrev Found : Option Hook → Type 0
   Found = Hooked (child rows) (crits rows) t.used (link_number t.root) x d
 
-  pub hook_start : 0 < t.used → Hooks Root (link_number t.root)
-  hook_start some = record { good = t.rooted some; at = refl; way = λ child' root' new i turned u. subst (Under child' i) (sym turned) u; passes = λ j e. e }
-
   pub hook_leaf : (slot : Slot) (l : Link) (i : ℕ) → l ≡ Leaf i → i < 4294967296 → Hooks slot (link_number l) → Found (Some (record { slot = slot; link = Leaf i }))
   hook_leaf slot l i e leaf h = let is = ap link_number e in subst (λ q. Found (Some (record { slot = slot; link = q }))) e ((h.good.0, h.good.1, h.good.2, λ q. absurd (omega arith)), h.at, h.way, h.passes)
 
@@ -94,7 +91,7 @@ module _ {K : Type 0} (t : Trie K) (x : ℕ → Bool) (d : ℕ) where
     }
 
     pub hook_left : number w.place < d → x (number w.place) ≡ false → Hooks (Left i) (side false w)
-    hook_left early e₁ = subst (λ q. Hooks (Left q) (side false w)) (m_is t x here i w (ap link_number e) is h.good) (on false _ e₁ (side_at false early e₁) (way_left (child rows) (crits rows) t.used (link_number t.root) x d (goods rows t.used (t.lefts, t.rights)) here (inner t x here i w (ap link_number e) is h.good) slot h.at h.way))
+    hook_left early e₁ = subst (λ q. Hooks (Left q) (side false w)) (m_is t x here i w (ap link_number e) is h.good) (on false _ e₁ (side_at false early e₁) (way_left (child rows) (crits rows) t.used (link_number t.root) x d (goods t) here (inner t x here i w (ap link_number e) is h.good) slot h.at h.way))
 
     pub hook_right : number w.place < d → x (number w.place) ≡ true → Hooks (Right i) (side true w)
-    hook_right early e₁ = subst (λ q. Hooks (Right q) (side true w)) (m_is t x here i w (ap link_number e) is h.good) (on true _ e₁ (side_at true early e₁) (way_right (child rows) (crits rows) t.used (link_number t.root) x d (goods rows t.used (t.lefts, t.rights)) here (inner t x here i w (ap link_number e) is h.good) slot h.at h.way))
+    hook_right early e₁ = subst (λ q. Hooks (Right q) (side true w)) (m_is t x here i w (ap link_number e) is h.good) (on true _ e₁ (side_at true early e₁) (way_right (child rows) (crits rows) t.used (link_number t.root) x d (goods t) here (inner t x here i w (ap link_number e) is h.good) slot h.at h.way))

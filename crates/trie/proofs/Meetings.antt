@@ -47,7 +47,7 @@ module _ {K : Type 0} (order : K → K → Ordering) (same : (x y : K) → order
   ks = keys rows t.used
 
   old_goods : (b : Bool) → Goods (crits rows) t.used (child rows b)
-  old_goods = goods rows t.used (t.lefts, t.rights)
+  old_goods = goods t
 
   within : (i : ℕ) (y : K) → slice_get ks i ≡ Some y → i < t.used
   within i y is = omega (arith, nth_below ks i y is, held_long (λ w. w.key) rows t.used (within_rows t.long))
@@ -55,7 +55,7 @@ module _ {K : Type 0} (order : K → K → Ordering) (same : (x y : K) → order
   -- the key stands at the place
   pub met_here : order k k ≡ Equal → (i : ℕ) → slice_get ks i ≡ Some k → number_of order ks k ≡ Some (i + 1)
   met_here itself i is =
-      number_some order k ks (suc i) (λ j y at e. ap suc (one_place spelling rows t.used (link_number t.root) (within_rows t.long) (t.lefts, t.rights) t.rooted sound i j k is (at ∙ ap Some (sym (same k y e))))) i k is itself
+      number_some order k ks (suc i) (λ j y at e. ap suc (one_place spelling t sound i j k is (at ∙ ap Some (sym (same k y e))))) i k is itself
       ∙ ap Some (sym (add-one i))
 
   not_there : (d : ℕ) → PartsFrom rows spelling t.used (link_number t.root) k d → (i : ℕ) (y : K) → slice_get ks i ≡ Some y → order k y ≡ Equal → ⊥

@@ -3,7 +3,7 @@ use Rattle.std.proofs.Common.{◌≡◌, ℕ, suc, ◌+◌, ◌-◌, ◌*◌, �
 use native.Mathlib.Nat.{div-eq_of_lt}
 use lib.Bits.{bit_xor, xor_self, xor_zero_l, xor_zero_r, xor_assoc, xor_shr, xor_mod}
 use lib.Count.{count_leading_zeros}
-use Rattle.std.proofs.lemmas.Nat.{leading_top, div-mul-add, mod-mul-add, div_below, le-div, pow_pos}
+use Rattle.std.proofs.lemmas.Nat.{xor_lt, leading_top, div-mul-add, mod-mul-add, div_below, le-div, pow_pos}
 use Rattle.std.proofs.lemmas.Bool.{cases_lt}
 use Rattle.std.proofs.lemmas.Bool.Decides.{nat_tests}
 use Rattle.trie.specs.Bits.{bit_of, bit, PartAt}
@@ -63,10 +63,22 @@ module _ (xs ys : List ℕ) (i j : ℕ) (low : j < 8) (before : (k : ℕ) → k 
         (cases_lt (t / 8) i),
   )
 
--- a and b are the bytes that were read
-module _ (a b a' b' j : ℕ) (is : a ≡ a') (is' : b ≡ b') where
-  pub differ_on : (bit_of a j ≡ bit_of b j → ⊥) → bit_of a' j ≡ bit_of b' j → ⊥
-  differ_on apart e = apart (ap (λ n. bit_of n j) is ∙ e ∙ sym (ap (λ n. bit_of n j) is'))
+-- the bytes a and b were read there, and are not the same
+module _ (xs ys : List ℕ) (i a b : ℕ) (is : a ≡ get_or xs i 0) (is' : b ≡ get_or ys i 0) (small : a < 2 ^ 8) (small' : b < 2 ^ 8) (some : 0 < bit_xor a b) where
+  abbrev first : ℕ → ℕ → ℕ
+  first x y = count_leading_zeros 8 (bit_xor x y)
 
-  pub agree_on : ((t : ℕ) → t < j → bit_of a t ≡ bit_of b t) → (t : ℕ) → t < j → bit_of a' t ≡ bit_of b' t
-  agree_on agree t h = sym (ap (λ n. bit_of n t) is) ∙ agree t h ∙ ap (λ n. bit_of n t) is'
+  low : bit_xor a b < 2 ^ 8
+  low = xor_lt 8 a b small small'
+
+  pub first_small : first a b < 8
+  first_small = zeros_below a b some low
+
+  pub parts : ((k : ℕ) → k < i → get_or xs k 0 ≡ get_or ys k 0) → PartAt (bit xs) (bit ys) (i * 8 + first a b)
+  parts before =
+      let x = get_or xs i 0 in
+      let y = get_or ys i 0 in
+      let some' : 0 < bit_xor x y = subst (λ n. 0 < n) (λ q. bit_xor (is q) (is' q)) some in
+      let low' : bit_xor x y < 2 ^ 8 = subst (λ n. n < 2 ^ 8) (λ q. bit_xor (is q) (is' q)) low in
+      subst (λ n. PartAt (bit xs) (bit ys) (i * 8 + n)) (λ q. first (sym is q) (sym is' q))
+      (part_at xs ys i (first x y) (zeros_below x y some' low') before (bits_differ x y some' low') (bits_agree x y some' low'))

@@ -26,9 +26,6 @@ module _ {K : Type 0} (t : Trie K) (x : ℕ → Bool) where
   abbrev pub to_go : ℕ → ℕ
   to_go here = cond (ltb here 4294967296) 0 (2 ^ 67 - crits rows (here - 4294967296))
 
-  pub go_start : 0 < t.used → Going (link_number t.root)
-  go_start some = record { good = t.rooted some; back = λ j e. e }
-
   -- the row w was read at a good link to an inner node
   module _ (here i : ℕ) (w : TrieRow K) (e : here ≡ i + 4294967296) (is : w ≡ get_or rows i w) (good : Good (crits rows) t.used 0 here) where
     abbrev m : ℕ
@@ -56,7 +53,7 @@ module _ {K : Type 0} (t : Trie K) (x : ℕ → Bool) where
     side_is b = column_at (side b) rows m w inside read
 
     side_good : (b : Bool) → Good (crits rows) t.used (crits rows m + 1) (side b w)
-    side_good b = subst (Good (crits rows) t.used (crits rows m + 1)) (side_is b) (goods rows t.used (t.lefts, t.rights) b m node)
+    side_good b = subst (Good (crits rows) t.used (crits rows m + 1)) (side_is b) (goods t b m node)
 
     pub good_on : (b : Bool) → Good (crits rows) t.used 0 (side b w)
     good_on b = let s = side_good b in (s.0, s.1, s.2, λ h. omega arith)

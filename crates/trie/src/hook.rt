@@ -24,6 +24,7 @@ impl<'a, K: Key> Trie<'a, K> {
         loop {
             let i = match at {
                 Link::Leaf(leaf) => {
+                    // The proof knows that a leaf's number fits only where the leaf is bound.
                     let link = Link::Leaf(leaf);
                     return Some(Hook { slot, link });
                 }

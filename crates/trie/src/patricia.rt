@@ -7,6 +7,8 @@ use crate::row::{Link, TrieRow};
 
 /// A dictionary over lent rows, one key a row, that uses only the spelling of its keys. What needs no spelling is a ghost
 /// field, so that a walk stays within the rows and ends, whatever they held before.
+// The rows are the caller's memory, and nothing here takes any: so there is a count of rows beside them, and links are row
+// numbers and no boxes.
 #[derive(Drop)]
 pub struct Trie<'a, K> {
     pub(crate) rows: &'a mut [TrieRow<K>],

@@ -54,6 +54,3 @@ invariant_of-self-in-Right g c = record {
 
 pub returns-in-Right-clause-does : goal.returns-in-Right-clause-does
 returns-in-Right-clause-does g c = (at_right c.fork.ensures c.requires.room c.requires.parts c.requires.hooked _ (cc) c.index-self-p-in-Right.result _ refl refl refl (omega arith)).does
-
-pub returns-in-Right-clause-beyond : goal.returns-in-Right-clause-beyond
-returns-in-Right-clause-beyond g c = (at_right c.fork.ensures c.requires.room c.requires.parts c.requires.hooked _ (cc) c.index-self-p-in-Right.result _ refl refl refl (omega arith)).rest
