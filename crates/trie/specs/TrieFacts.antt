@@ -30,14 +30,12 @@ pub goods : {K : Type 0} (t : Trie K) (b : Bool) → Goods (crits t.rows.now) t.
 goods t false = t.lefts
 goods t true = t.rights
 
-module _ {K : Type 0} (spelling : K → List ℕ) (t : Trie K) (sound : Sound spelling t) where
-  abbrev ks : List K
-  ks = keys t.rows.now t.used
+pub held_below : {K : Type 0} (t : Trie K) (i : ℕ) (k : K) → slice_get (keys t.rows.now t.used) i ≡ Some k → i < t.used
+held_below t i k e = omega (arith, nth_below (keys t.rows.now t.used) i k e, held_long (λ w. w.key) t.rows.now t.used (within_rows t.long))
 
-  below : (i : ℕ) (k : K) → slice_get ks i ≡ Some k → i < t.used
-  below i k e = omega (arith, nth_below ks i k e, held_long (λ w. w.key) t.rows.now t.used (within_rows t.long))
-
-  pub one_place : (i j : ℕ) (k : K) → slice_get ks i ≡ Some k → slice_get ks j ≡ Some k → i ≡ j
-  one_place i j k e e' =
-      one_leaf (crits t.rows.now) (child t.rows.now) (bits_of spelling ks) t.used (goods t) sound.nodes i _ (sound.under i (below i k e)) j (sound.under j (below j k e')) 0 (t.rooted (let h = below i k e in omega arith))
-      (λ q. ap (λ s. bit s q) (bits_at spelling ks i k e ∙ sym (bits_at spelling ks j k e')))
+pub one_place : {K : Type 0} (spelling : K → List ℕ) (t : Trie K) → Sound spelling t → (i j : ℕ) (k : K) → slice_get (keys t.rows.now t.used) i ≡ Some k → slice_get (keys t.rows.now t.used) j ≡ Some k → i ≡ j
+one_place spelling t sound i j k e e' =
+    let ks = keys t.rows.now t.used in
+    let below = held_below t i k e in
+    one_leaf (crits t.rows.now) (child t.rows.now) (bits_of spelling ks) t.used (goods t) sound.nodes i _ (sound.under i below) j (sound.under j (held_below t j k e')) 0 (t.rooted (omega arith))
+    (λ q. ap (λ s. bit s q) (bits_at spelling ks i k e ∙ sym (bits_at spelling ks j k e')))
