@@ -33,19 +33,11 @@ zeros_past n m k xs l h =
     let e : k ≡ length xs + (k - n) = omega arith in
     ap (at (xs ++ drop n (replicate m 0))) e ∙ get_or-append-add xs (drop n (replicate m 0)) (k - n) 0 ∙ get_or-drop n (replicate m 0) (k - n) 0 ∙ zeros m (n + (k - n))
 
-pub byte_mark : (b : Bool) → bool_byte b ≡ mark b
-byte_mark true = refl
-byte_mark false = refl
-
 -- ---- lists made of a function
 
 pub listed_from : (n : ℕ) (f : ℕ → ℕ) (xs : List ℕ) → length xs ≡ n → Front n xs f → xs ≡ listed n f
 unfolding listed
 listed_from n f xs l h = fill_by_all f xs n 0 l h
-
--- the front of an array
-pub listed_take : (n : ℕ) (f : ℕ → ℕ) (xs : List ℕ) → n ≤ length xs → Front n xs f → take n xs ≡ listed n f
-listed_take n f xs l h = listed_from n f (take n xs) (length-take-le n xs l) (λ k p. get_or-take n xs k 0 p ∙ h k p)
 
 listed_length : (n : ℕ) (f : ℕ → ℕ) → length (listed n f) ≡ n
 unfolding listed

@@ -19,7 +19,7 @@ earlier xs (suc i) = Some (at xs i)
 abbrev pub place : List ℕ → ℕ → Place
 place xs i = record { index = i; before = earlier xs i; own = at xs i; after = slice_get xs (i + 1) }
 
-abbrev pub Ruled : (List ℕ → ℕ → ℕ) → Place → ℕ → Type 0
+abbrev pub Ruled : {A : Type 0} → (List ℕ → ℕ → A) → Place → A → Type 0
 Ruled f p v = (xs : List ℕ) (i : ℕ) → i < length xs → p ≡ place xs i → v ≡ f xs i
 
 pub record Made (gives : Place → ℕ → Type 0) (old new : List ℕ) : Type 0 where

@@ -1,5 +1,5 @@
 //! A place of a row of colours, and what the rule says there.
-ghost use Rattle.std.specs.Prelude.{◌≡◌, ℕ, ◌<◌, List, length};
+ghost use Rattle.std.specs.Prelude.{◌≡◌, ◌<◌, length};
 ghost use Rattle.cutting.specs.Places.{Ruled, place};
 ghost use Rattle.cutting.specs.Rows.{at, mark};
 ghost use Rattle.cutting.specs.Rule.{peak, recolour, reduce};
@@ -53,7 +53,7 @@ impl Place {
 
     /// Whether a block begins here: at place 0, and where the colour exceeds both neighbours', but for place 1 and the last place.
     fn begins_block(self) -> bool
-        ensures { (xs : List ℕ) (i : ℕ) → i < length xs → self ≡ place xs i → result ≡ peak (length xs) (at xs) i }
+        ensures { Ruled (λ xs. peak (length xs) (at xs)) self result }
     {
         match (self.before, self.after) {
             (None, _) => true,

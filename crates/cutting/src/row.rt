@@ -24,6 +24,7 @@ pub(crate) fn colour_names(names: &[u32], colours: &mut [u8])
 }
 
 /// All places take together the colour that `rule` gives them: from the left, with the left neighbour's old colour in `before`.
+// By the index: the right neighbour is read while the place is written.
 fn pass<F: Fn(Place) -> u8>(colours: &mut [u8], rule: F)
     requires { F.IsAlwaysCallable rule }
     ensures { Made (F.post rule) colours.old colours.new }

@@ -1,5 +1,4 @@
 use crate::*;
-use std::test::Fail;
 
 const ROW: [u32; 8] = [1, 3, 5, 7, 2, 4, 6, 8];
 
@@ -18,42 +17,21 @@ fn refuses_a_short_scratch(rt: HostRuntime) {
 }
 
 #[test]
-fn hands_out_the_second_block(rt: HostRuntime) -> Result<(), Fail> {
-    match next_block(&ROW, &[1, 0, 0, 1, 0, 1, 0, 0], 3) {
-        Some(block) => {
-            assert_eq!(rt; (block.names.len(), block.end), (2, 5));
-            Ok(())
-        },
-        None => {
-            assert!(rt; false);
-            Ok(())
-        },
-    }
+fn hands_out_the_second_block(rt: HostRuntime) {
+    let block = next_block(&ROW, &[1, 0, 0, 1, 0, 1, 0, 0], 3);
+    assert_eq!(rt; block.map(|b| (b.names.len(), b.end)), Some((2, 5)));
 }
 
 #[test]
-fn cuts_a_window_as_its_row(rt: HostRuntime) -> Result<(), Fail> {
+fn cuts_a_window_as_its_row(rt: HostRuntime) {
     let mut names = [9; 96];
     names[..8].copy_from_slice(&ROW);
-    let Some(window) = Window::new(names, 8, true, true) else {
-        assert!(rt; false);
-        return Ok(());
-    };
-    let marks = window.block_starts();
-    assert_eq!(rt; (marks[3], marks[4], marks[5]), (1, 0, 1));
-    Ok(())
+    let marks = Window::new(names, 8, true, true).map(|w| w.block_starts());
+    assert_eq!(rt; marks.map(|m| (m[3], m[4], m[5])), Some((1, 0, 1)));
 }
 
 #[test]
-fn counts_a_run(rt: HostRuntime) -> Result<(), Fail> {
-    match next_run(&[4, 7, 7, 7, 2], 1) {
-        Some(run) => {
-            assert_eq!(rt; (run.name, run.times), (7, 3));
-            Ok(())
-        },
-        None => {
-            assert!(rt; false);
-            Ok(())
-        },
-    }
+fn counts_a_run(rt: HostRuntime) {
+    let run = next_run(&[4, 7, 7, 7, 2], 1);
+    assert_eq!(rt; run.map(|r| (r.name, r.times)), Some((7, 3)));
 }

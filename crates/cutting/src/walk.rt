@@ -11,6 +11,7 @@ pub struct Block<'a> {
 }
 
 /// The place of the first mark.
+// A `for` with the index, and no `position`: so rows and their block starts are walked.
 fn first_mark(marks: &[u8]) -> Option<usize>
     ensures { MatchOption result (Zeros marks.now (length marks.now)) (λ i. (i < length marks.now) × Zeros marks.now i × (at marks.now i ≢ 0)) }
 {

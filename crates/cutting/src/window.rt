@@ -10,6 +10,7 @@ mod passes;
 /// block boundaries, at most 13 names from the middle on either side, with 8 more names of context. The middle of a round is made of the names of the round
 /// below, two names or more to a block, and of one more on either side: with at most 30 names there are at most (13 + 30 + 13) / 2 + 2 = 30 above them. So a
 /// window has at most 8 + 13 + 30 + 13 + 8 = 72 names.
+// An array and a length: nothing is allocated.
 #[derive(Drop, Clone, Copy)]
 pub struct Window {
     names: [u32; 96],
@@ -40,6 +41,6 @@ impl Window {
     pub fn block_starts(&self) -> [u8; 96]
         ensures { Answer self.now.names self.now.len self.now.first self.now.last result }
     {
-        passes::marks(self.names, self.len)
+        passes::marks(*self)
     }
 }

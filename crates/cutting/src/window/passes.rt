@@ -1,4 +1,4 @@
-//! The passes over an array by value: the old colours are read while the new ones are made.
+//! The passes over an array by value: the old colours are read while the new ones are made. So they are not those of `row`, which go over a slice in place.
 ghost use Rattle.std.specs.Prelude.{◌≡◌, ℕ, ◌≤◌, ◌<◌, List, take};
 ghost use Rattle.cutting.specs.Passes.{coloured, marks_of, starts, without};
 ghost use Rattle.cutting.specs.Places.{Made};
@@ -6,6 +6,7 @@ ghost use Rattle.cutting.specs.Rows.{at};
 
 use crate::place::Place;
 use crate::row::colour_names;
+use crate::window::Window;
 use std::marker::Model;
 
 /// The colours of the first `len` places of a window; zeros stand past them.
@@ -25,12 +26,12 @@ impl Model for Colours {
 
 impl Colours {
     /// The first recolouring, of the names themselves.
-    fn of(names: [u32; 96], len: usize) -> Colours
-        requires { len ≤ 96 }
-        ensures { result ≡ coloured (take len names) }
+    fn of(window: Window) -> Colours
+        ensures { result ≡ coloured (take window.len window.names) }
     {
+        let len = window.len;
         let mut places = [0; 96];
-        colour_names(&names[..len], &mut places[..len]);
+        colour_names(&window.names[..len], &mut places[..len]);
         Colours { places, len }
     }
 
@@ -72,12 +73,11 @@ impl Colours {
     }
 }
 
-/// The marks of the first `n` names as a row.
-pub(crate) fn marks(names: [u32; 96], n: usize) -> [u8; 96]
-    requires { n ≤ 96 }
-    ensures row { take n result ≡ marks_of (take n names) }
-    ensures past { (k : ℕ) → n ≤ k → at result k ≡ 0 }
+/// The marks of a window's names as a row.
+pub(crate) fn marks(window: Window) -> [u8; 96]
+    ensures row { take window.len result ≡ marks_of (take window.len window.names) }
+    ensures past { (k : ℕ) → window.len ≤ k → at result k ≡ 0 }
 {
-    let six = Colours::of(names, n).recoloured().recoloured().recoloured();
+    let six = Colours::of(window).recoloured().recoloured().recoloured();
     six.reduced(5).reduced(4).reduced(3).marked().places
 }

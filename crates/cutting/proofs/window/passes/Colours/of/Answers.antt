@@ -1,8 +1,8 @@
-use Rattle.std.proofs.Common.{replicate, ◌∙◌}
+use Rattle.std.proofs.Common.{replicate, ◌∙◌, arith}
 use Rattle.std.proofs.lemmas.List.{length-take-le}
 use Rattle.cutting.proofs.Passes.{zeros_past}
 use Rattle.cutting.proofs.window.passes.Colours.of.Goals as goal
 
 pub invariant_of-result : goal.invariant_of-result
 invariant_of-result c =
-    (c.requires, λ k l. zeros_past c.args.len 96 k _ (c.colour_names.auto.colours ∙ length-take-le c.args.len (replicate 96 0) c.requires) l)
+    (omega arith, λ k l. zeros_past c.args.window.len 96 k _ (c.colour_names.auto.colours ∙ length-take-le c.args.window.len (replicate 96 0) (omega arith)) l)
