@@ -1,7 +1,8 @@
 -- The blocks of a row as lists: parts of the row, one after the other.
 use Rattle.std.proofs.Common.{◌≡◌, ℕ, suc, ◌+◌, ◌<◌, ◌≤◌, Bool, true, false, ◌⊎◌, List, [], ◌∷◌, ◌++◌, length, sym, refl, ap, ◌∙◌, ap₂, inl, inr, ⊎_elim, add-suc, suc-add, zero-add, add-one, arith, length-append}
-use Rattle.std.proofs.lemmas.List.{append-nil, append_assoc}
+use Rattle.std.proofs.lemmas.List.{append-nil}
 use Rattle.std.proofs.lemmas.Bool.{both_ways, cases_lt}
+use Rattle.std.proofs.lemmas.Grind.{flat_map-append}
 use Rattle.cutting.specs.Rule.{peak, begins}
 use Rattle.cutting.specs.Rows.{cuts}
 use Rattle.cutting.specs.Blocks.{glue, parted, blocks, flat, BlocksPart, BlocksBegin}
@@ -22,10 +23,6 @@ parted_flat f i (x ∷ xs) = glue_flat (f (suc i)) x (parted f (suc i) xs) ∙ a
 pub blocks_part : BlocksPart
 unfolding blocks
 blocks_part xs = parted_flat (cuts xs) 0 xs
-
-pub flat_append : (bs cs : List (List ℕ)) → flat (bs ++ cs) ≡ flat bs ++ flat cs
-flat_append [] cs = refl
-flat_append (b ∷ bs) cs = ap (λ xs. b ++ xs) (flat_append bs cs) ∙ sym (append_assoc b (flat bs) (flat cs))
 
 -- ---- two parts
 
@@ -163,7 +160,7 @@ blocks_begin xs before after h =
       begins = λ l. begin before r.begins l;
       front = r.front;
       rest = r.rest;
-      names = sym (flat_append before after) ∙ ap flat (sym h) ∙ parted_flat (cuts xs) 0 xs;
+      names = sym (flat_map-append (λ b. b) before after) ∙ ap flat (sym h) ∙ parted_flat (cuts xs) 0 xs;
     }
   where
     begin : (before : List (List ℕ)) → (0 < length before → 0 < length after → cuts xs (length (flat before)) ≡ true) → 0 < length after → cuts xs (length (flat before)) ≡ true

@@ -1,9 +1,7 @@
--- Passes over lists that hold a row, and what one write of a pass leaves.
-use Rattle.std.proofs.Common.{◌≡◌, ℕ, zero, suc, ◌+◌, ◌-◌, ◌%◌, ◌<◌, ◌≤◌, Bool, true, false, ◌≢◌, List, ◌++◌, length, take, drop, set, replicate, sym, refl, ap, ◌∙◌, ap₂, ⊎_elim, zero-add, arith}
-use mir.Val.{bool_byte}
+-- Passes over lists that hold a row.
+use Rattle.std.proofs.Common.{◌≡◌, ℕ, zero, suc, ◌+◌, ◌-◌, ◌%◌, ◌<◌, ◌≤◌, List, ◌++◌, length, drop, replicate, refl, ap, ◌∙◌, ap₂, zero-add, arith}
 use Rattle.std.proofs.lemmas.List.FromFn.{length-map-range_with_len, get_or-map-range_with_len, fill_by_all}
-use Rattle.std.proofs.lemmas.List.{get_or-set_same, get_or-set_other, get_or-append-add, get_or-drop, get_or-take, length-take-le}
-use Rattle.std.proofs.lemmas.Bool.{cases_eq}
+use Rattle.std.proofs.lemmas.List.{get_or-append_right, get_or-drop}
 use Rattle.cutting.specs.Rule.{fresh, recolour, left, right, reduce, peak, fourfold, colours, begins}
 use Rattle.cutting.specs.Rows.{at, cuts, mark, Front}
 use Rattle.cutting.specs.declared.place.Place.{Place}
@@ -11,27 +9,14 @@ use Rattle.cutting.specs.Places.{place, Ruled, Made}
 use Rattle.cutting.specs.Passes.{listed, coloured, without, starts, marks_of}
 use Rattle.cutting.proofs.Places.{right_same, reduce_same}
 
--- ---- one write
-
--- a write at i, seen at i and elsewhere
-pub at_put : (P : ℕ → ℕ → Type 0) (xs : List ℕ) (i v k : ℕ) → i < length xs → (k ≡ i → P k v) → (k ≢ i → P k (at xs k)) → P k (at (set xs i v) k)
-at_put P xs i v k l here else =
-    ⊎_elim (λ (e : k ≡ i). rw (e, get_or-set_same xs i v 0 l) (rw e at (here e))) (λ (ne : k ≢ i). rw (get_or-set_other xs i k v 0 ne) (else ne)) (cases_eq k i)
-
--- what stands below i, and the write at i, stand below i + 1
-pub front_put : (c : ℕ → ℕ) (xs : List ℕ) (i v : ℕ) → i < length xs → Front i xs c → v ≡ c i → Front (i + 1) (set xs i v) c
-front_put c xs i v l h e k p = at_put (λ k v. v ≡ c k) xs i v k l (λ q. e ∙ ap c (sym q)) (λ q. h k (omega arith))
-
-pub zeros : (n k : ℕ) → at (replicate n 0) k ≡ 0
+zeros : (n k : ℕ) → at (replicate n 0) k ≡ 0
 zeros zero k = refl
 zeros (suc n) zero = refl
 zeros (suc n) (suc k) = zeros n k
 
 -- past a front that was written over zeros
 pub zeros_past : (n m k : ℕ) (xs : List ℕ) → length xs ≡ n → n ≤ k → at (xs ++ drop n (replicate m 0)) k ≡ 0
-zeros_past n m k xs l h =
-    let e : k ≡ length xs + (k - n) = omega arith in
-    ap (at (xs ++ drop n (replicate m 0))) e ∙ get_or-append-add xs (drop n (replicate m 0)) (k - n) 0 ∙ get_or-drop n (replicate m 0) (k - n) 0 ∙ zeros m (n + (k - n))
+zeros_past n m k xs l h = get_or-append_right xs (drop n (replicate m 0)) n k 0 l h ∙ get_or-drop n (replicate m 0) (k - n) 0 ∙ zeros m (n + (k - n))
 
 -- ---- lists made of a function
 

@@ -1,7 +1,8 @@
 -- A window's marks are those of every row of which it is a part, at the places that are to be believed.
-use Rattle.std.proofs.Common.{◌≡◌, ℕ, ◌+◌, ◌-◌, ◌<◌, ◌≤◌, Bool, not, eqb, List, length, take, drop, sym, ap, ◌∙◌, ⊎_elim, arith, length-drop, length-take}
+use Rattle.std.proofs.Common.{◌≡◌, ℕ, ◌+◌, ◌-◌, ◌<◌, ◌≤◌, Bool, not, eqb, List, length, take, sym, ap, ◌∙◌, ⊎_elim, arith, length-drop, length-take}
 use Rattle.std.specs.List.{between}
-use Rattle.std.proofs.lemmas.List.{get_or-take, get_or-drop, length-take-le, ext_get_or}
+use Rattle.std.proofs.lemmas.List.{get_or-take, length-take-le, ext_get_or}
+use Rattle.std.proofs.lemmas.List.Edits.{get_or-between, length-between}
 use Rattle.cutting.specs.Rows.{at, cuts, mark}
 use Rattle.cutting.specs.Passes.{marks_of}
 use Rattle.cutting.specs.Blocks.{parted}
@@ -36,13 +37,12 @@ module _ (names : List ℕ) (len : ℕ) (first last : Bool) (room : len ≤ leng
 
   parts : (R : List ℕ) (a : ℕ) → Part names len first last R a → (i j : ℕ) → i ≤ j → j ≤ len → between i j names ≡ between (a + i) (a + j) R
   parts R a p i j l m =
-      let s : length (between i j names) ≡ j - i = simp (length-take, length-drop) (omega arith) in
+      let s : length (between i j names) ≡ j - i = length-between names i j (omega arith) in
       ext_get_or 0 (between i j names) (between (a + i) (a + j) R) (s ∙ sym (part_size R a p i j l m))
       (λ k q.
       let u : i + k < len = omega arith in
       let e : a + (i + k) ≡ a + i + k = omega arith in
-      get_or-take (j - i) (drop i names) k 0 (omega arith) ∙ get_or-drop i names k 0 ∙ p.same (i + k) u ∙ ap (at R) e
-      ∙ sym (get_or-take (a + j - (a + i)) (drop (a + i) R) k 0 (omega arith) ∙ get_or-drop (a + i) R k 0))
+      get_or-between names i j k 0 (omega arith) ∙ p.same (i + k) u ∙ ap (at R) e ∙ sym (get_or-between R (a + i) (a + j) k 0 (omega arith)))
 
   pub answer : (marks : List ℕ) → take len marks ≡ marks_of (take len names) → ((k : ℕ) → len ≤ k → at marks k ≡ 0) → Answer names len first last marks
   answer marks e z =

@@ -1,7 +1,8 @@
 -- Steps of the walk along a row and its marks.
-use Rattle.std.proofs.Common.{◌≡◌, ℕ, ◌+◌, ◌-◌, ◌<◌, ◌≤◌, min, Bool, true, false, not, eqb, List, ◌++◌, length, drop, sym, refl, ap, ◌∙◌, inl, inr, ⊎_elim, zero-add, arith, length-drop, length-take}
+use Rattle.std.proofs.Common.{◌≡◌, ℕ, ◌+◌, ◌-◌, ◌<◌, ◌≤◌, min, Bool, true, false, not, eqb, List, ◌++◌, length, drop, sym, refl, ap, ◌∙◌, inl, inr, ⊎_elim, zero-add, arith}
 use Rattle.std.specs.List.{between}
-use Rattle.std.proofs.lemmas.List.{get_or_past, get_or-take, get_or-drop, take-append-drop, drop-drop, drop_all}
+use Rattle.std.proofs.lemmas.List.{get_or_past, take-append-drop, drop-drop, drop_all}
+use Rattle.std.proofs.lemmas.List.Edits.{get_or-between, length-between}
 use Rattle.std.proofs.lemmas.Bool.{cases_lt, eq-eqb, ne_eqb}
 use Rattle.cutting.specs.Rows.{at, cuts, mark}
 use Rattle.cutting.specs.Blocks.{parted, blocks}
@@ -19,26 +20,20 @@ module _ (marks : List ℕ) (s n last : ℕ) (inside : s < n) (ends : last ≡ m
   past : (k : ℕ) → last ≤ k → k < n → flagged marks k ≡ false
   past k l m = zero_flag marks k (get_or_past marks k 0 (omega arith))
 
-  pub stop_late : last ≤ s + 1 → Stop marks s n n
-  stop_late h = record { later = inside; within = omega arith; inside = λ k p q. past k (omega arith) q; ends = inl refl }
-
-  seen : (i : ℕ) → s + 1 + i < last → at (between (s + 1) last marks) i ≡ at marks (s + 1 + i)
-  seen i l = get_or-take (last - (s + 1)) (drop (s + 1) marks) i 0 (omega arith) ∙ get_or-drop (s + 1) marks i 0
-
   size : length (between (s + 1) last marks) ≡ last - (s + 1)
-  size = simp (length-take, length-drop) (omega arith)
+  size = length-between marks (s + 1) last (omega arith)
 
   none : (i k : ℕ) → Zeros (between (s + 1) last marks) i → s < k → k < s + 1 + i → k < last → flagged marks k ≡ false
   none i k z p q l =
       let e : s + 1 + (k - (s + 1)) ≡ k = omega arith in
-      zero_flag marks k (ap (at marks) (sym e) ∙ sym (seen (k - (s + 1)) (omega arith)) ∙ z (k - (s + 1)) (omega arith))
+      zero_flag marks k (ap (at marks) (sym e) ∙ sym (get_or-between marks (s + 1) last (k - (s + 1)) 0 (omega arith)) ∙ z (k - (s + 1)) (omega arith))
 
   pub stop_found : (i : ℕ) → i < length (between (s + 1) last marks) → Zeros (between (s + 1) last marks) i → (at (between (s + 1) last marks) i ≡ 0 → ⊥) → Stop marks s n (s + 1 + i)
   stop_found i l z ne = record {
     later = omega arith;
     within = omega (arith, size);
     inside = λ k p q. none i k z p q (omega (arith, size));
-    ends = inr (one_flag marks (s + 1 + i) (λ e. ne (seen i (omega (arith, size)) ∙ e)));
+    ends = inr (one_flag marks (s + 1 + i) (λ e. ne (get_or-between marks (s + 1) last i 0 (omega (arith, size)) ∙ e)));
   }
 
   pub stop_none : Zeros (between (s + 1) last marks) (length (between (s + 1) last marks)) → Stop marks s n n
@@ -52,7 +47,7 @@ module _ (marks : List ℕ) (s n last : ℕ) (inside : s < n) (ends : last ≡ m
 pub handed : (row marks : List ℕ) (s e : ℕ) → Stop marks s (length row) e → Handed row marks s e (between s e row)
 unfolding onward
 handed row marks s e t =
-    let len : length (between s e row) ≡ e - s = simp (length-take, length-drop) (omega arith) in
+    let len : length (between s e row) ≡ e - s = length-between row s e t.within in
     let rest : drop (e - s) (drop s row) ≡ drop e row = drop-drop (e - s) s row ∙ ap (λ n. drop n row) (omega arith) in
     let parts : drop s row ≡ between s e row ++ drop e row = sym (take-append-drop (e - s) (drop s row)) ∙ ap (λ xs. between s e row ++ xs) rest in
     record {

@@ -1,8 +1,9 @@
 use Rattle.std.proofs.Common.{◌≡◌, length, add-one, arith}
+use Rattle.std.proofs.lemmas.Grind.{common_steps}
 use Rattle.cutting.specs.Rule.{recolour}
 use Rattle.cutting.specs.Rows.{at}
 use Rattle.cutting.specs.Passes.{coloured}
-use Rattle.cutting.proofs.Passes.{front_put, listed_from}
+use Rattle.cutting.proofs.Passes.{listed_from}
 use Rattle.cutting.proofs.Places.{recolour_at}
 use Rattle.cutting.proofs.row.colour_names.Goals as goal
 
@@ -11,7 +12,7 @@ loop-i-preserved c =
     let xs = c.args.names.now in
     let i = c.loop-i.i in
     let new : c.recoloured.result ≡ recolour (at xs) i = recolour_at xs i c.recoloured.result (rw c.loop-i.invariant.0 at c.recoloured.ensures) in
-    (rw (add-one i), front_put (recolour (at xs)) c.loop-i.colours i c.recoloured.result (omega arith) c.loop-i.invariant.1 new)
+    (rw (add-one i), λ k l. grind (arith, common_steps))
 
 pub returns : goal.returns
 unfolding coloured

@@ -1,9 +1,5 @@
-use Rattle.cutting.proofs.Steps.{stop_late, stop_found, stop_none}
+use Rattle.cutting.proofs.Steps.{stop_found, stop_none}
 use Rattle.cutting.proofs.walk.block_end.Goals as goal
-
-pub returns-then-start-last : goal.returns-then-start-last
-returns-then-start-last c =
-    stop_late c.args.marks.now c.args.start c.args.n c.min-last.result c.requires c.min-last.ensures c.if-start-last.true
 
 pub returns-in-Some : goal.returns-in-Some
 returns-in-Some c =
