@@ -33,7 +33,7 @@ fn fresh_colour(before: u32, own: u32) -> u8
     (2 * b + bit_of(own, b)) as u8
 }
 
-/// The new colour of a place with colour `own`, after its left neighbour, if it has one.
+/// The new colour of a place with colour `own` whose left neighbour, if it has one, has colour `before`.
 pub(crate) fn recoloured(before: Option<u32>, own: u32) -> u8
     ensures { MatchOption before (result ≡ own % 2) (λ b. result ≡ fresh b own) }
 {

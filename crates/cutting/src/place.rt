@@ -23,11 +23,7 @@ impl Place {
     {
         Place {
             index,
-            before: if index == 0 {
-                None
-            } else {
-                Some(colours[index - 1])
-            },
+            before: index.checked_sub(1).map(|left| colours[left]),
             own: colours[index],
             after: colours.get(index + 1).copied(),
         }

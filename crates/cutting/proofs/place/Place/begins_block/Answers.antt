@@ -15,4 +15,5 @@ returns-else-before-self c = λ xs i l e.
     let p = peak_inner c.args.self xs i e _ _ c.in-Some-Some.is-0 c.in-Some-Some.is-1 in grind (arith, nat_tests)
 
 pub returns-in-Some-None : goal.returns-in-Some-None
-returns-in-Some-None c = λ xs i l e. peak_last c.args.self xs i e _ c.in-Some-None.is-0 c.in-Some-None.is-1
+returns-in-Some-None c = λ xs i l e.
+    let p = peak_last c.args.self xs i e _ c.in-Some-None.is-0 c.in-Some-None.is-1 in cc
