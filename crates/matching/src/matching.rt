@@ -13,6 +13,7 @@ use texts::report::{DeliveredFile, Outcome};
 /// The most bytes that a delivered file may have.
 const MOST_BYTES: usize = 4096;
 
+// A file and its rows are no struct: a method that reads the one into the other is not covered (an intersection of lifetimes, one of which is lent again).
 /// Reads a delivered file into the rows from the first on, and answers how many. No bytes are a file that cannot be read.
 pub fn read_delivery(file: Option<&[u8]>, rows: &mut [Record]) -> Result<usize, FileFault>
     ensures delivered { Delivered (option_map (λ x. x.now) file.entry) rows.old rows.new result }

@@ -11,7 +11,3 @@ returns-then-n-ys c =
     let shorter : n < length xs + length ys - n = elim c.if-n-ys.either [ inl h ↦ omega (arith, common.right) | inr h ↦ omega (arith, h.1, common.left) ] in
     (differ xs ys n common shorter, (n, refl, common))
 
-pub returns-else-n-ys : goal.returns-else-n-ys
-returns-else-n-ys c =
-    let common = c.common_prefix-n.ensures in
-    (same c.args.xs.now c.args.ys.now c.common_prefix-n.result common (omega (arith, c.if-n-ys.false)) (omega (arith, c.if-n-ys.false)), omega (arith, c.if-n-ys.false, common.left))
