@@ -2,19 +2,15 @@
 use Rattle.std.proofs.Common.{suc, ltb, inl, inr, true, false, cond, not, None, Some, ◌≡◌, ℕ, ◌+◌, ◌<◌, ◌≤◌, eqb, List, [], ◌∷◌, ◌++◌, length, take, drop, sym, refl, ap, ◌∙◌, arith, length-append}
 use Rattle.std.proofs.lemmas.List.{take-append-drop, drop_more}
 use Rattle.std.proofs.lemmas.List.Quantifiers.{position-Some}
+use Rattle.std.proofs.lemmas.List.Splits.{length-slice_split}
 use Rattle.std.proofs.lemmas.Option.{cond_some, none-some}
-use Rattle.std.proofs.lemmas.Bool.{cases_lt, lt-ltb, eqb-true, cond-true, cond_both}
+use Rattle.std.proofs.lemmas.Bool.{cases_lt, lt-ltb, eqb-true, cond-true}
 use Rattle.std.specs.List.{onto_first, position, position_or_len}
 use Rattle.lines.specs.Parts.{parts, CutAt}
 
-onto_first_some : (x : ℕ) (ps : List (List ℕ)) → 0 < length (onto_first x ps)
-onto_first_some x [] = omega arith
-onto_first_some x (p ∷ ps) = omega arith
-
 -- there is a part, always
 pub parts_some : (b : ℕ) (bs : List ℕ) → 0 < length (parts b bs)
-parts_some b [] = omega arith
-parts_some b (x ∷ xs) = cond_both (eqb x b) _ _ (λ ps. 0 < length ps) (λ _. omega arith) (λ _. onto_first_some x (parts b xs))
+parts_some b bs = omega (arith, length-slice_split (λ x. eqb x b) bs)
 
 -- ---- cut where a byte first stands
 

@@ -1,6 +1,6 @@
 -- What the reader has not read, and the line that leads it.
-use Rattle.std.proofs.Common.{◌≡◌, ℕ, ◌+◌, ◌-◌, ◌<◌, ◌≤◌, List, [], ◌∷◌, ◌++◌, length, take, drop, Some, None, Ok, Err, Option, sym, ap, ◌∙◌, subst, append_assoc, add_assoc, arith, length-drop, MatchOption}
-use Rattle.std.proofs.lemmas.List.{take_rest, drop_all, drop-drop, drop_at, length_push}
+use Rattle.std.proofs.Common.{◌≡◌, ℕ, ◌+◌, ◌-◌, ◌<◌, List, [], ◌∷◌, ◌++◌, length, take, drop, Some, None, Ok, Err, Option, sym, ap, ◌∙◌, subst, append_assoc, add_assoc, arith, length-drop, MatchOption}
+use Rattle.std.proofs.lemmas.List.{take_rest, drop-drop, drop_at, length_push}
 use Rattle.lines.specs.declared.faults.LineFault.TheVariants.{NotARecord}
 use Rattle.lines.specs.declared.fields.Fields.{Fields}
 use Rattle.lines.specs.declared.line.Line.{Line}
@@ -33,12 +33,6 @@ leads rd line back here c =
       cut = ap (parts 10) (sym (take_rest rd.file.now rd.place)) ∙ c.cut ∙ ap (λ bs. l ∷ parts 10 bs) after;
       within = omega (arith, c.long, ap length (take_rest rd.file.now rd.place), length-drop rd.place rd.file.now);
     }
-
-pub no_line : (rd : LineReader) → parts 10 (tail rd) ≡ tail rd ∷ [] → left rd ≡ rest rd ∷ []
-no_line rd e = ap (parts 10) (sym (take_rest rd.file.now rd.place)) ∙ e ∙ ap (λ bs. bs ∷ []) (take_rest rd.file.now rd.place)
-
-pub left_none : (rd : LineReader) → length rd.file.now ≤ rd.place → left rd ≡ [] ∷ []
-left_none rd h = ap (parts 10) (drop_all rd.place rd.file.now h)
 
 pub rest_some : (rd : LineReader) → rd.place < length rd.file.now → 0 < length (rest rd)
 rest_some rd h = omega (arith, length-drop rd.place rd.file.now)

@@ -73,15 +73,6 @@ pub record Sofar (was is : LineReader) (rows rows' : List Record) (used : ℕ) :
   pub kept : drop used rows' ≡ drop used rows
   pub whole : reading_of was (length rows) ≡ with_all (take used rows') (reading_of is (length rows - used))
 
-pub sofar_none : (was : LineReader) (rows : List Record) → Sofar was was rows rows 0
-sofar_none was rows = record {
-  file = refl;
-  size = refl;
-  within = omega arith;
-  kept = refl;
-  whole = ap (reading_of was) (omega arith);
-}
-
 module _ (was is : LineReader) (rows rows' : List Record) (used : ℕ) (s : Sofar was is rows rows' used) where
   pub sofar_more : (l : ReadLine) → Gives is l → used < length rows' → (is' : LineReader) → is'.file.now ≡ is.file.now → is'.place ≡ is.place + l.size → is'.lines ≡ is.lines + 1
       → Sofar was is' rows (set rows' used l.record) (used + 1)

@@ -2,9 +2,10 @@
 use Rattle.std.proofs.Common.{◌≡◌, ℕ, zero, suc, ◌+◌, ◌-◌, ◌*◌, ◌/◌, ◌%◌, ◌^◌, ◌<◌, ◌≤◌, Bool, true, ◌&&◌, eqb, leb, List, [], ◌∷◌, ◌++◌, map, length, replicate, Some, None, sym, refl, ap, ◌∙◌, subst, append_assoc, arith, length-append}
 use Rattle.std.specs.Bool.{then_some}
 use Rattle.std.specs.List.{AllByRecursion, list_all, onto_first}
+use Rattle.std.proofs.lemmas.List.Splits.{slice_split-cons_no}
 use Rattle.std.proofs.lemmas.Fmt.{decimal_by_steps, decimal_nonempty}
 use Rattle.std.proofs.ByRecursion.{All-append, All-push}
-use Rattle.std.proofs.lemmas.Bool.{and_parts, and_from, cond-true, cond-false, ne_eqb, le-leb}
+use Rattle.std.proofs.lemmas.Bool.{and_parts, and_from, cond-true, ne_eqb, le-leb}
 use Rattle.std.proofs.lemmas.Bool.Decides.{nat_tests}
 use Rattle.lines.specs.declared.kind.Kind.{Kind}
 use Rattle.lines.specs.declared.kind.Kind.TheVariants.{Dipole, Quadrupole, Sextupole, Steerer}
@@ -28,7 +29,7 @@ Lacks b xs = AllByRecursion (λ x. x ≡ b → ⊥) xs
 
 parts_lacks : (b : ℕ) (xs : List ℕ) → Lacks b xs → parts b xs ≡ xs ∷ []
 parts_lacks b [] h = refl
-parts_lacks b (x ∷ xs) h = cond-false (eqb x b) ([] ∷ parts b xs) (onto_first x (parts b xs)) (ne_eqb x b h.0) ∙ ap (onto_first x) (parts_lacks b xs h.1)
+parts_lacks b (x ∷ xs) h = slice_split-cons_no (λ y. eqb y b) x xs (ne_eqb x b h.0) ∙ ap (onto_first x) (parts_lacks b xs h.1)
 
 cut_lacks : (b : ℕ) (xs ys : List ℕ) → Lacks b xs → parts b (xs ++ (b ∷ ys)) ≡ xs ∷ parts b ys
 cut_lacks b xs ys h = parts-append b xs ys ∙ ap (λ ps. ps ++ parts b ys) (parts_lacks b xs h)

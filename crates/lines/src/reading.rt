@@ -94,6 +94,7 @@ impl<'a> LineReader<'a> {
         ensures lawful { AllByRecursion Lawful (reading_of self.old (length rows.old)).records }
         ensures within { IfOk result (λ n. n ≤ length rows.old) }
     {
+        // The count is the answer, and a `for` over the rows would have to look behind the last row once more.
         let mut used = 0;
         while let Some(line) = self.peek()? {
             if used >= rows.len() {

@@ -17,6 +17,7 @@ const ROWS: usize = 128;
 /// Reads a file from its start, as far as there is space, and answers what was read; none where it cannot be opened or read.
 fn load<'a>(rt: &HostRuntime, path: &str, space: &'a mut [u8; SPACE]) -> Option<&'a [u8]> {
     let mut file = File::open(rt, path).ok()?;
+    // No heap, so the bytes go into fixed space and are counted.
     let mut used = 0;
     while used < SPACE {
         let n = file.read(&mut space[used..]).ok()?;

@@ -1,6 +1,5 @@
 -- Common prefixes.
-use Rattle.std.proofs.Common.{◌≡◌, ℕ, suc, ◌+◌, ◌-◌, ◌<◌, ◌≤◌, Bool, true, false, cond, List, [], ◌∷◌, length, get_or, take, Decides, sym, refl, ap, ◌∙◌, arith}
-use Rattle.std.proofs.lemmas.List.{take_all}
+use Rattle.std.proofs.Common.{◌≡◌, ℕ, suc, ◌+◌, ◌-◌, ◌<◌, true, false, cond, List, [], ◌∷◌, length, get_or, take, Decides, sym, refl, ap, ◌∙◌, arith}
 use Rattle.std.proofs.lemmas.Bool.{false≢true}
 use Rattle.std.specs.List.{prefix_len, zip}
 use Rattle.lines.specs.declared.record.Record.{Record}
@@ -32,10 +31,7 @@ common_pairs (x ∷ xs) (y ∷ ys) = by_first (ghosts.eq x y) (equal_decides x y
 pub common : (xs ys : List Record) (n : ℕ) → n ≡ pairs xs ys → Common xs ys n
 common xs ys n e = rw e (common_pairs xs ys)
 
--- where a common prefix is shorter than one of the lists, they differ; else they are the same
+-- where a common prefix is shorter than one of the lists, they differ
 pub differ : {X : Type 0} (xs ys : List X) (n : ℕ) → Common xs ys n → n < length xs + length ys - n → xs ≡ ys → ⊥
 differ [] ys n c h e = omega (arith, ap length e)
 differ (x ∷ xs) ys n c h e = let long = ap length e in c.longest (omega (arith, long)) (omega (arith, long)) x (ap (λ l. get_or l n x) e)
-
-pub same : {X : Type 0} (xs ys : List X) (n : ℕ) → Common xs ys n → length xs ≤ n → length ys ≤ n → xs ≡ ys
-same xs ys n c p q = sym (take_all n xs p) ∙ c.same ∙ take_all n ys q

@@ -77,7 +77,7 @@ fn counted(word: &str, n: usize) -> ReportLine
 fn line_told(fault: Fault) -> usize
     ensures { result ≡ line_told fault.number fault.place }
 {
-    if fault.number == 1 || fault.number == 2 {
+    if matches!(fault.number, 1 | 2) {
         fault.place
     } else {
         0

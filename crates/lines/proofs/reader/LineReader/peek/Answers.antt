@@ -1,11 +1,7 @@
-use Rattle.std.proofs.Common.{◌+◌, None, sym, refl, ap, ◌∙◌}
-use Rattle.lines.specs.Reading.{next}
+use Rattle.std.proofs.Common.{◌+◌, None, sym, refl, ◌∙◌}
 use Rattle.lines.specs.Readers.{left}
-use Rattle.lines.proofs.Lefts.{left_none, rest_some, next_unended, next_leads, gives}
+use Rattle.lines.proofs.Lefts.{rest_some, next_unended, next_leads, gives}
 use Rattle.lines.proofs.reader.LineReader.peek.Goals as goal
-
-pub returns-then-self : goal.returns-then-self
-returns-then-self c = ap (next (c.args.self.now.lines + 1)) (left_none c.args.self.now c.if-self.true)
 
 pub returns-in_default : goal.returns-in_default
 returns-in_default c = next_unended (c.args.self.now.lines + 1) (left c.args.self.now) _ c.in_default.ensures (rest_some c.args.self.now c.if-self.false)
