@@ -63,7 +63,7 @@ impl<'a, K: Key> Dictionary<K> for SearchTree<'a, K> {
         ensures lent { self.new.rows.ghost_name ≡ self.old.rows.ghost_name }
     {
         self.asks = one_more(self.asks);
-        Some(self.walk(k).ok()? + 1)
+        self.walk(k).ok().map(|i| i + 1)
     }
 
     fn name(&mut self, k: &K) -> Result<u32, Full>

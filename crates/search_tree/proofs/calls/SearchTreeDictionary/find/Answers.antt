@@ -1,11 +1,10 @@
-use Rattle.std.proofs.Common.{◌+◌, ◌∙◌, ap, sym}
+use Rattle.std.proofs.Common.{◌≡◌, ◌+◌, ◌∙◌, ap, sym, rules}
 use Rattle.std.specs.Option.{option_map}
 use Rattle.search_tree.proofs.Finds.{tree_number}
 use Rattle.dictionary.proofs.Numbers.{did_find}
 use Rattle.search_tree.proofs.calls.SearchTreeDictionary.find.Goals as goal
 
-pub returns-in_err-ok-clause-does : goal.returns-in_err-ok-clause-does
-returns-in_err-ok-clause-does g c sound = did_find g.K.Key.order c.args.k.now _ _ _ _ c.one_more-self.ensures sound _ (tree_number g.K.Key.order g.met.K.Key.same c.args.self.now sound c.args.k.now _ c.walk.ensures.ends ∙ ap (option_map (λ i. i + 1)) (sym c.in_err-ok.ensures.value) ∙ sym c.from_residual.ensures)
-
 pub returns-clause-does : goal.returns-clause-does
-returns-clause-does g c sound = did_find g.K.Key.order c.args.k.now _ _ _ _ c.one_more-self.ensures sound _ (tree_number g.K.Key.order g.met.K.Key.same c.args.self.now sound c.args.k.now _ c.walk.ensures.ends ∙ ap (option_map (λ i. i + 1)) (sym c.in_ok-ok.ensures.value))
+returns-clause-does g c =
+    let next : c.map.result ≡ option_map (λ i. i + 1) c.ok.result = search rules in
+    λ sound. did_find g.K.Key.order c.args.k.now _ _ _ _ c.one_more-self.ensures sound _ (tree_number g.K.Key.order g.met.K.Key.same c.args.self.now sound c.args.k.now _ c.walk.ensures.ends ∙ ap (option_map (λ i. i + 1)) (sym c.ok.ensures.value) ∙ sym next)
