@@ -37,7 +37,7 @@ impl<'a, K: Key> Dictionary<K> for SearchTree<'a, K> {
 
     ghost sound = { Sound K.Key.order };
 
-    ghost different = { λ t s. different_from (meaning_of t).keys (one_place K.Key.order t s) };
+    ghost different = { λ t s. different_from (meaning_of t).keys (one_place K.Key.order t.rows.now t.used s) };
 
     ghost within = { λ t. held_within (λ w. w.key) t.rows.now t.used t.long };
 

@@ -10,7 +10,7 @@ use Rattle.dictionary.specs.Rows.{beyond, column}
 use Rattle.dictionary.specs.declared.rows.Slot.{Slot}
 use Rattle.dictionary.specs.declared.rows.Slot.TheVariants.{Root, Left, Right}
 use Rattle.trie.specs.Trie.{link_number, Under, at, go, Ends, ends_at, ends_on, Good, Goods, Sorted, Hooked, InPlace, PartsFrom, SideAt, SlotAt, Turned, bits_of, side, child, crits, keys}
-use Rattle.trie.specs.TrieFacts.{goods}
+use Rattle.trie.specs.TrieFacts.{goods_in}
 use Rattle.trie.specs.TrieMeaning.{Forks, meaning_of, Sound}
 use Rattle.trie.specs.declared.patricia.Trie.{Trie}
 use Rattle.trie.specs.declared.place.Place.{Place}
@@ -102,7 +102,7 @@ module _ {K : Type 0} {spelling : K → List ℕ} {t : Trie K} {k : K} {p : Plac
       }
 
       old_goods : (b : Bool) → Goods (crits rows) n (child rows b)
-      old_goods = goods t
+      old_goods = goods_in t
 
       all_goods : (b : Bool) → Goods (crits rows') (n + 1) (child rows' b)
       all_goods b = subst (λ q. Goods (crits rows') q (child rows' b)) (sym (add-one n)) (goods_grown grown old_goods b)

@@ -9,7 +9,7 @@ use Rattle.trie.specs.declared.row.Link.TheVariants.{Leaf, Inner}
 use Rattle.trie.specs.declared.row.TrieRow.{TrieRow}
 use Rattle.dictionary.specs.declared.rows.Slot.{Slot}
 use Rattle.dictionary.specs.declared.rows.Slot.TheVariants.{Root, Left, Right}
-use Rattle.trie.specs.TrieFacts.{goods}
+use Rattle.trie.specs.TrieFacts.{goods_in}
 use Rattle.trie.proofs.Steps.{inner, m_is, node, crit_is, side_is, good_on, step_on}
 
 module _ (child : Bool → ℕ → ℕ) (crit : ℕ → ℕ) (n root : ℕ) (x : ℕ → Bool) (d : ℕ) where
@@ -91,7 +91,7 @@ module _ {K : Type 0} (t : Trie K) (x : ℕ → Bool) (d : ℕ) where
     }
 
     pub hook_left : number w.place < d → x (number w.place) ≡ false → Hooks (Left i) (side false w)
-    hook_left early e₁ = subst (λ q. Hooks (Left q) (side false w)) (m_is t x here i w (ap link_number e) is h.good) (on false _ e₁ (side_at false early e₁) (way_left (child rows) (crits rows) t.used (link_number t.root) x d (goods t) here (inner t x here i w (ap link_number e) is h.good) slot h.at h.way))
+    hook_left early e₁ = subst (λ q. Hooks (Left q) (side false w)) (m_is t x here i w (ap link_number e) is h.good) (on false _ e₁ (side_at false early e₁) (way_left (child rows) (crits rows) t.used (link_number t.root) x d (goods_in t) here (inner t x here i w (ap link_number e) is h.good) slot h.at h.way))
 
     pub hook_right : number w.place < d → x (number w.place) ≡ true → Hooks (Right i) (side true w)
-    hook_right early e₁ = subst (λ q. Hooks (Right q) (side true w)) (m_is t x here i w (ap link_number e) is h.good) (on true _ e₁ (side_at true early e₁) (way_right (child rows) (crits rows) t.used (link_number t.root) x d (goods t) here (inner t x here i w (ap link_number e) is h.good) slot h.at h.way))
+    hook_right early e₁ = subst (λ q. Hooks (Right q) (side true w)) (m_is t x here i w (ap link_number e) is h.good) (on true _ e₁ (side_at true early e₁) (way_right (child rows) (crits rows) t.used (link_number t.root) x d (goods_in t) here (inner t x here i w (ap link_number e) is h.good) slot h.at h.way))

@@ -5,8 +5,9 @@ use Rattle.std.specs.Option.{option_map}
 use Rattle.std.specs.Result.{result_ok}
 use Rattle.trie.specs.Bits.{bit}
 use Rattle.dictionary.specs.Meaning.{number_of}
+use Rattle.dictionary.specs.Facts.{within_rows}
 use Rattle.trie.specs.Trie.{link_number, Under, at, go, Ends, ends_at, ends_on, Good, Goods, Node, Hooked, PartsFrom, Meets, bits_of, keys, child, crits}
-use Rattle.trie.specs.TrieFacts.{goods, held_below, bits_at, one_place}
+use Rattle.trie.specs.TrieFacts.{goods_in, held_in, bits_at, one_place}
 use Rattle.trie.specs.TrieMeaning.{Sound}
 use Rattle.trie.specs.declared.patricia.Trie.{Trie}
 use Rattle.trie.specs.declared.place.Place.{Place}
@@ -46,19 +47,19 @@ module _ {K : Type 0} (order : K → K → Ordering) (same : (x y : K) → order
   ks = keys rows t.used
 
   old_goods : (b : Bool) → Goods (crits rows) t.used (child rows b)
-  old_goods = goods t
+  old_goods = goods_in t
 
   -- the key stands at the place
   pub met_here : order k k ≡ Equal → (i : ℕ) → slice_get ks i ≡ Some k → number_of order ks k ≡ Some (i + 1)
   met_here itself i is =
-      number_some order k ks (suc i) (λ j y at e. ap suc (one_place spelling t sound i j k is (at ∙ ap Some (sym (same k y e))))) i k is itself
+      number_some order k ks (suc i) (λ j y at e. ap suc (one_place spelling t.rows.now t.used (link_number t.root) (within_rows t.long) (t.lefts, t.rights) t.rooted sound i j k is (at ∙ ap Some (sym (same k y e))))) i k is itself
       ∙ ap Some (sym (add-one i))
 
   not_there : (d : ℕ) → PartsFrom rows spelling t.used (link_number t.root) k d → (i : ℕ) (y : K) → slice_get ks i ≡ Some y → order k y ≡ Equal → ⊥
   not_there d p i y is e =
       let own : get_or (map spelling ks) i [] ≡ spelling k = bits_at spelling ks i y is ∙ ap spelling (sym (same k y e)) in
       let ij : i ≡ p.0 =
-      ends_there (child rows) (crits rows) (bits_of spelling ks) t.used old_goods sound.nodes (bit (spelling k)) i (link_number t.root) (sound.under i (held_below t i y is)) p.0 0 (t.rooted (omega (arith, p.1))) (λ q. ap (λ s. bit s q) own) p.2
+      ends_there (child rows) (crits rows) (bits_of spelling ks) t.used old_goods sound.nodes (bit (spelling k)) i (link_number t.root) (sound.under i (held_in t i y is)) p.0 0 (t.rooted (omega (arith, p.1))) (λ q. ap (λ s. bit s q) own) p.2
       in
       p.3.0 (sym (ap (λ s. bit s d) own) ∙ ap (λ q. bits_of spelling ks q d) ij)
 
@@ -67,7 +68,7 @@ module _ {K : Type 0} (order : K → K → Ordering) (same : (x y : K) → order
   met_apart d p = number_none order k ks 0 (λ i y is e. absurd (not_there d p i y is e)) refl
 
   pub met_nothing : t.used ≡ 0 → number_of order ks k ≡ None
-  met_nothing none = number_none order k ks 0 (λ i y is e. absurd (omega (arith, held_below t i y is))) refl
+  met_nothing none = number_none order k ks 0 (λ i y is e. absurd (omega (arith, held_in t i y is))) refl
 
   pub met_err : (m : Option Place) → Meets rows spelling t.used (link_number t.root) k (Err m) → number_of order ks k ≡ None
   met_err (Some p) m = met_apart _ m

@@ -3,7 +3,7 @@ use Rattle.std.proofs.Common.{◌≡◌, ℕ, ◌+◌, ◌-◌, ◌^◌, ◌<◌
 use Rattle.std.proofs.lemmas.Bool.Decides.{nat_tests}
 use Rattle.trie.specs.Bits.{number}
 use Rattle.trie.specs.Trie.{Ends, ends_at, ends_on, link_number, Good, side, child, crits}
-use Rattle.trie.specs.TrieFacts.{goods}
+use Rattle.trie.specs.TrieFacts.{goods_in}
 use Rattle.trie.specs.declared.patricia.Trie.{Trie}
 use Rattle.trie.specs.declared.row.Link.{Link}
 use Rattle.trie.specs.declared.row.Link.TheVariants.{Leaf}
@@ -53,7 +53,7 @@ module _ {K : Type 0} (t : Trie K) (x : ℕ → Bool) where
     side_is b = column_at (side b) rows m w inside read
 
     side_good : (b : Bool) → Good (crits rows) t.used (crits rows m + 1) (side b w)
-    side_good b = subst (Good (crits rows) t.used (crits rows m + 1)) (side_is b) (goods t b m node)
+    side_good b = subst (Good (crits rows) t.used (crits rows m + 1)) (side_is b) (goods_in t b m node)
 
     pub good_on : (b : Bool) → Good (crits rows) t.used 0 (side b w)
     good_on b = let s = side_good b in (s.0, s.1, s.2, λ h. omega arith)

@@ -105,6 +105,9 @@ module _ {K : Type 0} (rows : List (TrieRow K)) where
   abbrev pub child : Bool → ℕ → ℕ
   child b = column (side b) rows
 
+  abbrev pub Linked : ℕ → Type 0
+  Linked n = Goods crits n (child false) × Goods crits n (child true)
+
   abbrev pub Rooted : ℕ → ℕ → Type 0
   Rooted n root = 0 < n → Good crits n 0 root
 

@@ -1,12 +1,12 @@
 -- No key stands at two places of a trie: here, since a ghost member cites it. Assumes nothing.
-use Rattle.std.specs.Prelude.{◌≡◌, ℕ, zero, suc, ◌-◌, ◌<◌, Bool, true, false, List, [], ◌∷◌, map, Some, slice_index_or}
+use Rattle.std.specs.Prelude.{◌≡◌, ℕ, zero, suc, ◌-◌, ◌<◌, ◌≤◌, Bool, true, false, List, [], ◌∷◌, map, length, Some, slice_index_or}
 use Rattle.std.proofs.Common.{sym, ap, subst, ◌∙◌, arith}
 use Rattle.std.specs.List.{slice_get}
 use Rattle.trie.specs.Bits.{bit}
 use Rattle.dictionary.specs.Facts.{held_long, nth_below, within_rows}
-use Rattle.trie.specs.Trie.{Under, at, go, Good, Goods, Node, bits_of, keys, child, crits}
-use Rattle.trie.specs.TrieMeaning.{Sound}
+use Rattle.trie.specs.Trie.{Under, at, go, Good, Goods, Node, bits_of, keys, child, crits, Linked, Rooted, InPlace}
 use Rattle.trie.specs.declared.patricia.Trie.{Trie}
+use Rattle.trie.specs.declared.row.TrieRow.{TrieRow}
 
 -- no two leaves under one link have the same bits
 module _ (crit : ℕ → ℕ) (child : Bool → ℕ → ℕ) (bits : ℕ → ℕ → Bool) (n : ℕ) (goods : (b : Bool) → Goods crit n (child b)) (nodes : (m : ℕ) → (0 < m) × (m < n) → Node child crit bits m) where
@@ -26,16 +26,25 @@ bits_at spelling [] i k e = let z : ◌≡◌ {A = ℕ} 0 1 = cc in absurd (omeg
 bits_at spelling (y ∷ ys) zero k e = let same : y ≡ k = cc in ap spelling same
 bits_at spelling (y ∷ ys) (suc i) k e = bits_at spelling ys i k e
 
-pub goods : {K : Type 0} (t : Trie K) (b : Bool) → Goods (crits t.rows.now) t.used (child t.rows.now b)
-goods t false = t.lefts
-goods t true = t.rights
+-- a key that is held stands below the count
+pub held_below : {K : Type 0} (rows : List (TrieRow K)) (n : ℕ) → n ≤ length rows → (i : ℕ) (k : K) → slice_get (keys rows n) i ≡ Some k → i < n
+held_below rows n long i k e = omega (arith, nth_below (keys rows n) i k e, held_long (λ w. w.key) rows n long)
 
-pub held_below : {K : Type 0} (t : Trie K) (i : ℕ) (k : K) → slice_get (keys t.rows.now t.used) i ≡ Some k → i < t.used
-held_below t i k e = omega (arith, nth_below (keys t.rows.now t.used) i k e, held_long (λ w. w.key) t.rows.now t.used (within_rows t.long))
+pub goods : {K : Type 0} (rows : List (TrieRow K)) (n : ℕ) → Linked rows n → (b : Bool) → Goods (crits rows) n (child rows b)
+goods rows n links false = links.0
+goods rows n links true = links.1
 
-pub one_place : {K : Type 0} (spelling : K → List ℕ) (t : Trie K) → Sound spelling t → (i j : ℕ) (k : K) → slice_get (keys t.rows.now t.used) i ≡ Some k → slice_get (keys t.rows.now t.used) j ≡ Some k → i ≡ j
-one_place spelling t sound i j k e e' =
-    let ks = keys t.rows.now t.used in
-    let below = held_below t i k e in
-    one_leaf (crits t.rows.now) (child t.rows.now) (bits_of spelling ks) t.used (goods t) sound.nodes i _ (sound.under i below) j (sound.under j (held_below t j k e')) 0 (t.rooted (omega arith))
-    (λ q. ap (λ s. bit s q) (bits_at spelling ks i k e ∙ sym (bits_at spelling ks j k e')))
+module _ {K : Type 0} (spelling : K → List ℕ) (rows : List (TrieRow K)) (n root : ℕ) (long : n ≤ length rows) (links : Linked rows n) (rooted : Rooted rows n root) (sound : InPlace rows spelling n root) where
+  pub one_place : (i j : ℕ) (k : K) → slice_get (keys rows n) i ≡ Some k → slice_get (keys rows n) j ≡ Some k → i ≡ j
+  one_place i j k e e' =
+      let below = held_below rows n long i k e in
+      one_leaf (crits rows) (child rows) (bits_of spelling (keys rows n)) n (goods rows n links) sound.nodes i root (sound.under i below) j (sound.under j (held_below rows n long j k e')) 0 (rooted (omega arith))
+      (λ t. ap (λ s. bit s t) (bits_at spelling (keys rows n) i k e ∙ sym (bits_at spelling (keys rows n) j k e')))
+
+-- the same of a trie, by its ghost fields
+module _ {K : Type 0} (t : Trie K) where
+  pub goods_in : (b : Bool) → Goods (crits t.rows.now) t.used (child t.rows.now b)
+  goods_in b = goods t.rows.now t.used (t.lefts, t.rights) b
+
+  pub held_in : (i : ℕ) (k : K) → slice_get (keys t.rows.now t.used) i ≡ Some k → i < t.used
+  held_in i k e = held_below t.rows.now t.used (within_rows t.long) i k e

@@ -1,9 +1,10 @@
 // A new trie, and its calls.
 ghost use Rattle.std.specs.Prelude.{◌≡◌, length};
 ghost use Rattle.dictionary.specs.Does.{Does};
-ghost use Rattle.dictionary.specs.Facts.{different_from, held_within, most_small};
+ghost use Rattle.dictionary.specs.Facts.{different_from, held_within, most_small, within_rows};
 ghost use Rattle.dictionary.specs.Meaning.{new, finding, naming, keying};
 ghost use Rattle.dictionary.specs.Rows.{beyond};
+ghost use Rattle.trie.specs.Trie.{link_number};
 ghost use Rattle.trie.specs.TrieFacts.{one_place};
 ghost use Rattle.trie.specs.TrieMeaning.{meaning_of, Sound};
 
@@ -38,7 +39,7 @@ impl<'a, K: Key> Dictionary<K> for Trie<'a, K> {
 
     ghost sound = { Sound K.Key.spelling };
 
-    ghost different = { λ t s. different_from (meaning_of t).keys (one_place K.Key.spelling t s) };
+    ghost different = { λ t s. different_from (meaning_of t).keys (one_place K.Key.spelling t.rows.now t.used (link_number t.root) (within_rows t.long) (t.lefts, t.rights) t.rooted s) };
 
     ghost within = { λ t. held_within (λ w. w.key) t.rows.now t.used t.long };
 
