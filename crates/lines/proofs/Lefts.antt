@@ -1,6 +1,8 @@
 -- What the reader has not read, and the line that leads it.
-use Rattle.std.proofs.Common.{◌≡◌, ℕ, ◌+◌, ◌-◌, ◌<◌, List, [], ◌∷◌, ◌++◌, length, take, drop, Some, None, Ok, Err, Option, sym, ap, ◌∙◌, subst, append_assoc, add_assoc, arith, length-drop, MatchOption}
+use Rattle.std.proofs.Common.{◌≡◌, ℕ, ◌+◌, ◌-◌, ◌<◌, List, [], ◌∷◌, ◌++◌, length, take, drop, Some, None, Ok, Err, Option, refl, sym, ap, ◌∙◌, subst, append_assoc, add_assoc, arith, length-drop, MatchOption}
 use Rattle.std.proofs.lemmas.List.{take_rest, drop-drop, drop_at, length_push}
+use Rattle.std.specs.Option.{ok_or}
+use Rattle.lines.specs.declared.faults.LineFault.{LineFault}
 use Rattle.lines.specs.declared.faults.LineFault.TheVariants.{NotARecord}
 use Rattle.lines.specs.declared.fields.Fields.{Fields}
 use Rattle.lines.specs.declared.line.Line.{Line}
@@ -74,3 +76,16 @@ gives rd l line h says size =
       within = omega (arith, h.within);
       next = next_leads rd l h (Some line.record) says ∙ ap (λ n. Ok (Some (line.record, n))) (sym size);
     }
+
+-- ---- a value, or a refusal in its place
+
+pub ok_or_some : {A E : Type 0} (o : Option A) (e : E) (x : A) → ok_or o e ≡ Ok x → o ≡ Some x
+ok_or_some None e x h = let z : ◌≡◌ {A = ℕ} 0 1 = cc in absurd (omega arith)
+ok_or_some (Some y) e x h = let same : y ≡ x = cc in ap Some same
+
+pub ok_or_none : {A E : Type 0} (o : Option A) (e f : E) → ok_or o e ≡ Err f → (o ≡ None) × (e ≡ f)
+ok_or_none None e f h = (refl, cc)
+ok_or_none (Some y) e f h = let z : ◌≡◌ {A = ℕ} 0 1 = cc in absurd (omega arith)
+
+pub leads_some : (rd : LineReader) (o : Option Line) (e : LineFault) (l : Line) → MatchOption o (left rd ≡ rest rd ∷ []) (Leads rd) → ok_or o e ≡ Ok l → Leads rd l
+leads_some rd o e l h k = subst (λ p. MatchOption p (left rd ≡ rest rd ∷ []) (Leads rd)) (ok_or_some o e l k) h

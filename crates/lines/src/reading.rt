@@ -50,12 +50,8 @@ impl<'a> LineReader<'a> {
         let refusal = LineFault::NotARecord {
             line: self.lines + 1,
         };
-        let Some(line) = self.line() else {
-            return Err(refusal);
-        };
-        let Some(record) = line.to_record() else {
-            return Err(refusal);
-        };
+        let line = self.line().ok_or(refusal)?;
+        let record = line.to_record().ok_or(refusal)?;
         Ok(Some(ReadLine {
             record,
             size: line.bytes.len() + 1,
