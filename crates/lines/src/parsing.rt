@@ -70,6 +70,7 @@ fn circuit_in(field: Field) -> Option<[u8; 12]>
     }
 }
 
+// Not one function with `circuit_in`: case and value differ, and only the form of the match is alike.
 /// The kind that a field of one letter says.
 fn kind_in(field: Field) -> Option<Kind>
     ensures { result ≡ kind_in field.entry }
