@@ -23,6 +23,7 @@ fn bit_of(x: u32, b: u32) -> u32
 
 /// The new colour of a place with colour `own` whose left neighbour has colour `before`: twice the number of the lowest bit in which they differ, and that
 /// bit of `own`. Equal neighbours, of which the rule says nothing, give 64.
+// 64 and no Option: the marks are those of the rule for every row, and a colour is wanted at each place.
 fn fresh_colour(before: u32, own: u32) -> u8
     ensures { result ≡ fresh before own }
 {

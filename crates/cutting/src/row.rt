@@ -61,6 +61,7 @@ fn mark_starts(colours: &mut [u8])
     pass(colours, |place| place.mark());
 }
 
+// A line for each stage and no loop: so they are held against the rule.
 /// The marks of a whole row, in a slice of its length.
 fn mark_row(names: &[u32], bytes: &mut [u8])
     requires { length names.now ≡ length bytes.old }
@@ -76,6 +77,7 @@ fn mark_row(names: &[u32], bytes: &mut [u8])
     mark_starts(bytes);
 }
 
+// Marks are bytes and no bools: the caller's scratch is bytes, in which the passes leave their colours.
 /// Leaves in `marks` a 1 at each place of the row `names` where a block begins and a 0 at its other places. Bytes past the row stay as they were, and so
 /// does a scratch that is too short, which is refused. It takes any numbers; where neighbours are equal, `fresh_colour` says how it goes on.
 pub fn block_starts(names: &[u32], marks: &mut [u8]) -> Result<(), NoRoom>

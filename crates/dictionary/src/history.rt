@@ -7,6 +7,7 @@ use crate::Dictionary;
 use crate::calls::{Answer, Call};
 use crate::key::Key;
 
+// A `match` and no closure: calls are values, so that lists of them can be spoken of.
 /// Carries out one call.
 pub fn carry_out<K: Key, D: Dictionary<K>>(dictionary: &mut D, call: &Call<K>) -> Answer<K>
     ensures { Does D.Dictionary.meaning D.Dictionary.sound dictionary.old dictionary.new result (calling K.Key.order call.now) }
@@ -21,6 +22,8 @@ pub fn carry_out<K: Key, D: Dictionary<K>>(dictionary: &mut D, call: &Call<K>) -
     }
 }
 
+// By the place and no `zip`: of what is written through a zipped `iter_mut` nothing is known after the loop. Calls and the room for their answers are the
+// caller's memory, the one read and the other written, so they are two slices.
 /// Carries out a list of calls, as many as there is room for answers.
 pub fn replay<K: Key, D: Dictionary<K>>(
     dictionary: &mut D,

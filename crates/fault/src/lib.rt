@@ -14,6 +14,7 @@ pub enum Layer {
 /// What a refusal tells. What the place counts depends on the number.
 #[derive(Clone, Copy, Debug, PartialEq, Eq)]
 pub struct Fault {
+    // A number, since it is what a refusal tells to the outside; inside, the reasons are enums that turn into a fault by `From`.
     pub number: u8,
     pub layer: Layer,
     pub place: usize,

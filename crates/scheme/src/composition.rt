@@ -4,6 +4,7 @@
 #[derive(Clone, Copy, Debug, PartialEq, Eq, PartialOrd, Ord)]
 pub struct Composition {
     /// 1 an element, 2 a power, 3 a block.
+    // A number and no enum: a composition is plain fields, and its order and spelling hold for any contents.
     pub kind: u8,
     pub round: u8,
     pub length: u32,

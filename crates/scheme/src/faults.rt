@@ -15,6 +15,7 @@ pub enum BuildFault {
     Compositions { round: u8, full: Full },
 }
 
+// Two conversions and no generic one: what stands beside Full says which dictionary was full.
 /// Full of the dictionary of elements, with the position.
 impl From<(usize, Full)> for BuildFault {
     ghost from_gives = { λ e r. r ≡ Elements e.0 e.1 };

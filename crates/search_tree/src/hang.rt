@@ -7,6 +7,7 @@ use crate::row::TreeRow;
 use dictionary::key::Key;
 use dictionary::rows::Slot;
 
+// A function of the rows and no method: on a tree each write has to keep its ghost fields, and a link to the new row leads outside them until the count grows.
 /// Hangs a row for the key at the slot where its walk ended.
 pub(crate) fn hang<K: Key>(rows: &mut [TreeRow<K>], used: usize, slot: Slot, k: &K)
     requires room { used < most (length rows.old) }

@@ -7,6 +7,8 @@ use crate::row::TreeRow;
 
 /// A dictionary over lent rows, one key a row, that uses only the order of its keys. What needs no order is a ghost
 /// field, so that a walk stays within the rows and ends, whatever they held before.
+// The rows are the caller's memory, so a count stands beside them. Rows, count and asks are no struct that the trie shares: out of a struct with ghost
+// fields that lies in another the checker does not cover lending a part of the rows.
 #[derive(Drop)]
 pub struct SearchTree<'a, K> {
     pub(crate) rows: &'a mut [TreeRow<K>],
