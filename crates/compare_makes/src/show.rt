@@ -5,6 +5,7 @@ use search_tree::TreeRow;
 use std::{fmt, io};
 use trie::TrieRow;
 
+// Calls and answers are another crate's types, so their `Display` stands on a struct of this one.
 /// A call and the answer to it, as they are printed.
 #[derive(Drop)]
 struct Shown<'a> {

@@ -5,7 +5,7 @@ use mathlib.Core.HLevel.{is_prop→PathP}
 use denote.Struct.Props.{props}
 use Rattle.std.specs.Option.{option_map}
 use Rattle.std.proofs.lemmas.Bool.Decides.{Decides-and, Decides-like}
-use Rattle.std.specs.Cmp.{unsigned_Decides}
+use Rattle.std.specs.Cmp.{IsPartialEquivalence, decided, partial_equiv_from_equiv, unsigned_Decides}
 use Rattle.std.specs.Cmp.Lexicographic.{pointwise, pointwise_decides}
 use Rattle.lines.specs.declared.kind.Kind.{Kind}
 use Rattle.lines.specs.declared.kind.Kind.TheVariants.{Dipole, Quadrupole, Sextupole, Steerer}
@@ -62,3 +62,6 @@ same_fields_decides x y =
     (letters_decide x.kind y.kind)
     (unsigned_Decides x.limit y.limit)
     (unsigned_Decides x.chain y.chain)
+
+pub same_fields_laws : IsPartialEquivalence same_fields
+same_fields_laws = partial_equiv_from_equiv (decided same_fields same_fields_decides)

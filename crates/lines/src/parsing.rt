@@ -89,6 +89,7 @@ fn digit(b: u8) -> Option<u32>
     char::from(b).to_digit(10)
 }
 
+// Not `parse`, which takes a sign too.
 /// The value of at most nine digits.
 fn digits_value(bytes: &[u8]) -> Option<u32>
     requires { length bytes.now ≤ 9 }
