@@ -27,6 +27,7 @@ impl Key for Record {
         18
     }
 
+    // By the place: the spelling is a format, of which the trie asks one byte at a time.
     fn byte(&self, i: usize) -> u8 {
         if i < 12 {
             self.circuit[i]

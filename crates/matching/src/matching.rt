@@ -51,6 +51,7 @@ fn refused(file: DeliveredFile, fault: FileFault) -> Outcome
     }
 }
 
+// The rows are the caller's memory, and a list is the front of them: a count says how far.
 /// Reads both files into their rows, the magnet list first, and compares their lists.
 pub fn match_files(
     magnets: Option<&[u8]>,

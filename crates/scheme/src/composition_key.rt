@@ -34,6 +34,7 @@ impl Key for Composition {
         30
     }
 
+    // By the place: the spelling is a format, of which the trie asks one byte at a time.
     fn byte(&self, i: usize) -> u8 {
         if i == 0 {
             self.kind
