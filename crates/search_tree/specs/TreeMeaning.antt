@@ -6,15 +6,10 @@ use Rattle.std.specs.List.{slice_get}
 use Rattle.dictionary.specs.Meaning.{Meaning, meaning, most}
 use Rattle.search_tree.specs.Tree.{keys, InOrder}
 use Rattle.search_tree.specs.declared.row.TreeRow.{TreeRow}
-use Rattle.search_tree.specs.declared.tree.SearchTree.{SearchTree}
 
 module _ {K : Type 0} where
-  abbrev pub meaning_of : SearchTree K → Meaning K
-  meaning_of t = meaning (keys t.rows.now t.used) (most (length t.rows.now)) t.asks
-
-  -- the walk for each key ends at its row
-  abbrev pub Sound : (K → K → Ordering) → SearchTree K → Type 0
-  Sound order t = InOrder order t.used t.rows.now
+  abbrev pub meaning_of : List (TreeRow K) → ℕ → ℕ → Meaning K
+  meaning_of rows used asks = meaning (keys rows used) (most (length rows)) asks
 
   -- a walk ends at one row, so no key stands at two places
   pub one_place : (order : K → K → Ordering) (rows : List (TreeRow K)) (n : ℕ) → InOrder order n rows → (i j : ℕ) (k : K) → slice_get (keys rows n) i ≡ Some k → slice_get (keys rows n) j ≡ Some k → i ≡ j

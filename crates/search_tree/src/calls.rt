@@ -4,7 +4,8 @@ ghost use Rattle.dictionary.specs.Does.{Does};
 ghost use Rattle.dictionary.specs.Facts.{different_from, held_within, most_small};
 ghost use Rattle.dictionary.specs.Meaning.{new, finding, naming, keying};
 ghost use Rattle.dictionary.specs.Rows.{beyond};
-ghost use Rattle.search_tree.specs.TreeMeaning.{meaning_of, Sound, one_place};
+ghost use Rattle.search_tree.specs.Tree.{keys};
+ghost use Rattle.search_tree.specs.TreeMeaning.{meaning_of, one_place};
 
 use crate::hang::hang;
 use crate::row::TreeRow;
@@ -19,8 +20,7 @@ impl<'a, K: Key> SearchTree<'a, K> {
     /// A tree with no keys and no asks. Its capacity is the number of rows, up to 16,777,216; what they hold does not
     /// matter.
     pub fn new(rows: &'a mut [TreeRow<K>]) -> SearchTree<'a, K>
-        ensures meaning { meaning_of result ≡ new (length rows.old) }
-        ensures sound { Sound K.Key.order result }
+        ensures meaning { meaning_of result.rows.now result.used result.asks ≡ new (length rows.old) }
         ensures rows { result.rows.now ≡ rows.old }
         ensures lent { result.rows.ghost_name ≡ rows.entry.ghost_name }
     {
@@ -33,11 +33,11 @@ impl<'a, K: Key> SearchTree<'a, K> {
 }
 
 impl<'a, K: Key> Dictionary<K> for SearchTree<'a, K> {
-    ghost meaning = { meaning_of };
+    ghost meaning = { λ t. meaning_of t.rows.now t.used t.asks };
 
-    ghost sound = { Sound K.Key.order };
+    ghost sound = { λ _. Unit {0} };
 
-    ghost different = { λ t s. different_from (meaning_of t).keys (one_place K.Key.order t.rows.now t.used s) };
+    ghost different = { λ t _. different_from (keys t.rows.now t.used) (one_place K.Key.order t.rows.now t.used t.ordered) };
 
     ghost within = { λ t. held_within (λ w. w.key) t.rows.now t.used t.long };
 
@@ -58,7 +58,7 @@ impl<'a, K: Key> Dictionary<K> for SearchTree<'a, K> {
     }
 
     fn find(&mut self, k: &K) -> Option<u32>
-        ensures does { Does meaning_of (Sound K.Key.order) self.old self.new result (finding K.Key.order k.now) }
+        ensures does { Does (λ t. meaning_of t.rows.now t.used t.asks) (λ _. Unit {0}) self.old self.new result (finding K.Key.order k.now) }
         ensures rows { self.new.rows.now ≡ self.old.rows.now }
         ensures lent { self.new.rows.ghost_name ≡ self.old.rows.ghost_name }
     {
@@ -67,7 +67,7 @@ impl<'a, K: Key> Dictionary<K> for SearchTree<'a, K> {
     }
 
     fn name(&mut self, k: &K) -> Result<u32, Full>
-        ensures does { Does meaning_of (Sound K.Key.order) self.old self.new result (naming K.Key.order k.now) }
+        ensures does { Does (λ t. meaning_of t.rows.now t.used t.asks) (λ _. Unit {0}) self.old self.new result (naming K.Key.order k.now) }
         ensures beyond { beyond self.new.rows.now ≡ beyond self.old.rows.now }
         ensures lent { self.new.rows.ghost_name ≡ self.old.rows.ghost_name }
     {
@@ -87,7 +87,7 @@ impl<'a, K: Key> Dictionary<K> for SearchTree<'a, K> {
     }
 
     fn key(&mut self, n: u32) -> Result<K, Absent>
-        ensures does { Does meaning_of (Sound K.Key.order) self.old self.new result (keying n) }
+        ensures does { Does (λ t. meaning_of t.rows.now t.used t.asks) (λ _. Unit {0}) self.old self.new result (keying n) }
         ensures rows { self.new.rows.now ≡ self.old.rows.now }
         ensures lent { self.new.rows.ghost_name ≡ self.old.rows.ghost_name }
     {
