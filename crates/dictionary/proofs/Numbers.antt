@@ -40,35 +40,35 @@ module _ {K : Type 0} (order : K → K → Ordering) (k : K) where
         let here = only j x is same in
         some_from 1 ks j x is same (λ i y at e. let q = only i y at e in omega arith) ∙ ap Some (omega arith)
 
-  -- the calls on a dictionary with those keys, once the ask is counted: `kept` is what stays
+  -- the calls on a dictionary with those keys, once the ask is counted
   module _ (ks : List K) (cap a a' : ℕ) (counted : a' ≡ more a) where
-    pub did_find : {kept : Type 0} → kept → (r : Option ℕ) → number_of order ks k ≡ r → Did (finding order k (meaning ks cap a)) r (meaning ks cap a') kept
-    did_find stays r e = record { answer = sym e; after = ap (meaning ks cap) counted; stays = stays }
+    pub did_find : (r : Option ℕ) → number_of order ks k ≡ r → Did (finding order k (meaning ks cap a)) r (meaning ks cap a')
+    did_find r e = record { answer = sym e; after = ap (meaning ks cap) counted }
 
-    pub did_old : {kept : Type 0} → kept → (n : ℕ) → number_of order ks k ≡ Some n → Did (naming order k (meaning ks cap a)) (Ok n) (meaning ks cap a') kept
-    did_old stays n e =
+    pub did_old : (n : ℕ) → number_of order ks k ≡ Some n → Did (naming order k (meaning ks cap a)) (Ok n) (meaning ks cap a')
+    did_old n e =
         let says : naming order k (meaning ks cap a) ≡ out (Ok n) (meaning ks cap (more a)) = ap (λ o. name_at order o k (meaning ks cap (more a))) e in
-        record { answer = sym (ap (λ q. q.answer) says); after = ap (meaning ks cap) counted ∙ sym (ap (λ q. q.after) says); stays = stays }
+        record { answer = sym (ap (λ q. q.answer) says); after = ap (meaning ks cap) counted ∙ sym (ap (λ q. q.after) says) }
 
-    pub did_append : number_of order ks k ≡ None → (r : Result ℕ Full) (m : Meaning K) {kept : Type 0} → Did (append k (meaning ks cap a')) r m kept → Did (naming order k (meaning ks cap a)) r m kept
-    did_append e r m {kept = kept} done =
-        subst (λ o. Did o r m kept) (ap (λ q. append k (meaning ks cap q)) counted ∙ sym (ap (λ o. name_at order o k (meaning ks cap (more a))) e)) done
+    pub did_append : number_of order ks k ≡ None → (r : Result ℕ Full) (m : Meaning K) → Did (append k (meaning ks cap a')) r m → Did (naming order k (meaning ks cap a)) r m
+    did_append e r m done =
+        subst (λ o. Did o r m) (ap (λ q. append k (meaning ks cap q)) counted ∙ sym (ap (λ o. name_at order o k (meaning ks cap (more a))) e)) done
 
 -- a key that isn't in the list: there is room, or none
-module _ {K : Type 0} (k : K) (ks : List K) (cap a n : ℕ) (long : length ks ≡ n) {kept : Type 0} (stays : kept) where
-  pub appended : (ks' : List K) (cap' : ℕ) → n < cap → ks' ≡ ks ++ k ∷ [] → cap' ≡ cap → Did (append k (meaning ks cap a)) (Ok (n + 1)) (meaning ks' cap' a) kept
+module _ {K : Type 0} (k : K) (ks : List K) (cap a n : ℕ) (long : length ks ≡ n) where
+  pub appended : (ks' : List K) (cap' : ℕ) → n < cap → ks' ≡ ks ++ k ∷ [] → cap' ≡ cap → Did (append k (meaning ks cap a)) (Ok (n + 1)) (meaning ks' cap' a)
   appended ks' cap' h longer same =
       let says : append k (meaning ks cap a) ≡ out (Ok (n + 1)) (meaning (ks ++ k ∷ []) cap a) =
       cond-true (ltb (length ks) cap) _ _ (lt-ltb _ _ (omega arith)) ∙ ap (λ q. out (Ok (q + 1)) (meaning (ks ++ k ∷ []) cap a)) long
       in
-      record { answer = sym (ap (λ q. q.answer) says); after = (λ i. meaning (longer i) (same i) a) ∙ sym (ap (λ q. q.after) says); stays = stays }
+      record { answer = sym (ap (λ q. q.answer) says); after = (λ i. meaning (longer i) (same i) a) ∙ sym (ap (λ q. q.after) says) }
 
-  pub refused : cap ≤ n → Did (append k (meaning ks cap a)) (Err (full n)) (meaning ks cap a) kept
+  pub refused : cap ≤ n → Did (append k (meaning ks cap a)) (Err (full n)) (meaning ks cap a)
   refused h =
       let says : append k (meaning ks cap a) ≡ out (Err (full n)) (meaning ks cap a) =
       cond-false (ltb (length ks) cap) _ _ (le-ltb _ _ (omega arith)) ∙ ap (λ q. out (Err (full q)) (meaning ks cap a)) long
       in
-      record { answer = sym (ap (λ q. q.answer) says); after = sym (ap (λ q. q.after) says); stays = stays }
+      record { answer = sym (ap (λ q. q.answer) says); after = sym (ap (λ q. q.after) says) }
 
 -- key n
 pub key_there : {K : Type 0} (ks : List K) (n : ℕ) (k : K) → 0 < n → slice_get ks (n - 1) ≡ Some k → Ok k ≡ or_absent (key_of ks n)

@@ -13,17 +13,16 @@ use Rattle.dictionary.specs.declared.calls.Call.TheVariants.{Size, Capacity, Ask
 module _ {K : Type 0} (order : K → K → Ordering) where
   module _ (m₀ : Meaning K) (cs : List (Call K)) (room : List (Answer K)) where
     -- the calls below i are done: m is the meaning then, and `now` has their answers
-    pub record Going (m : Meaning K) (now : List (Answer K)) (i : ℕ) (sound : Type 0) : Type 0 where
+    pub record Going (m : Meaning K) (now : List (Answer K)) (i : ℕ) : Type 0 where
       pub left : after order m (drop i cs) ≡ after order m₀ cs
       pub answered : take i now ++ answers order m (drop i cs) ≡ answers order m₀ cs
       pub rest : drop i now ≡ drop i room
-      pub stays : sound
 
-    pub going_start : {sound : Type 0} → sound → Going m₀ room 0 sound
-    going_start s = record { left = refl; answered = refl; rest = refl; stays = s }
+    pub going_start : Going m₀ room 0
+    going_start = record { left = refl; answered = refl; rest = refl }
 
-    module _ (m : Meaning K) (now : List (Answer K)) (i : ℕ) {sound : Type 0} (g : Going m now i sound) where
-      pub ran : length cs ≤ i → i ≤ length now → Ran order m₀ cs room now m sound
+    module _ (m : Meaning K) (now : List (Answer K)) (i : ℕ) (g : Going m now i) where
+      pub ran : length cs ≤ i → i ≤ length now → Ran order m₀ cs room now m
       ran h within =
           let none : drop i cs ≡ [] = drop_all i cs h in
           let all : take i now ≡ answers order m₀ cs = sym (append-nil (take i now)) ∙ ap (λ ds. take i now ++ answers order m ds) (sym none) ∙ g.answered in
@@ -31,10 +30,9 @@ module _ {K : Type 0} (order : K → K → Ordering) where
           record {
             answered = sym (take-append-drop i now) ∙ ap (λ ys. ys ++ drop i now) all ∙ ap (λ ys. answers order m₀ cs ++ ys) (g.rest ∙ ap (λ n. drop n room) size);
             left = ap (after order m) (sym none) ∙ g.left;
-            stays = g.stays;
           }
 
-      pub going_on : (c : Call K) (r : Answer K) (m' : Meaning K) {sound' : Type 0} → drop i cs ≡ c ∷ drop (i + 1) cs → i < length now → Did (calling order c m) r m' sound' → Going m' (set now i r) (i + 1) sound'
+      pub going_on : (c : Call K) (r : Answer K) (m' : Meaning K) → drop i cs ≡ c ∷ drop (i + 1) cs → i < length now → Did (calling order c m) r m' → Going m' (set now i r) (i + 1)
       going_on c r m' next h did = record {
         left = ap (λ v. after order v (drop (i + 1) cs)) did.after ∙ ap (after order m) (sym next) ∙ g.left;
         answered =
@@ -45,7 +43,6 @@ module _ {K : Type 0} (order : K → K → Ordering) where
             ∙ ap (λ ds. take i now ++ answers order m ds) (sym next)
             ∙ g.answered;
         rest = drop-set-lt (i + 1) now i r (omega arith) ∙ sym (drop-drop 1 i now) ∙ ap (drop 1) g.rest ∙ drop-drop 1 i room;
-        stays = did.stays;
       }
 
   -- key n is still key n
@@ -77,11 +74,11 @@ module _ {K : Type 0} (order : K → K → Ordering) where
   run_keeps m [] n k e = e
   run_keeps m (c ∷ cs) n k e = run_keeps (calling order c m).after cs n k (call_keeps c m n k e)
 
-  pub ran_keeps : (m : Meaning K) (cs : List (Call K)) (room room' : List (Answer K)) (m' : Meaning K) {sound : Type 0} → Ran order m cs room room' m' sound → Keeps m m'
+  pub ran_keeps : (m : Meaning K) (cs : List (Call K)) (room room' : List (Answer K)) (m' : Meaning K) → Ran order m cs room room' m' → Keeps m m'
   ran_keeps m cs room room' m' ran = subst (Keeps m) (sym ran.left) (run_keeps m cs)
 
   -- two runs of one list of calls, from one meaning
-  pub ran_alike : (cs : List (Call K)) (m m₁ : Meaning K) (a a' b b' : List (Answer K)) (m' m₁' : Meaning K) {s s₁ : Type 0} → m ≡ m₁ → a ≡ b → Ran order m (take (length a) cs) a a' m' s → Ran order m₁ (take (length b) cs) b b' m₁' s₁ → Alike a' b' m' m₁'
+  pub ran_alike : (cs : List (Call K)) (m m₁ : Meaning K) (a a' b b' : List (Answer K)) (m' m₁' : Meaning K) → m ≡ m₁ → a ≡ b → Ran order m (take (length a) cs) a a' m' → Ran order m₁ (take (length b) cs) b b' m₁' → Alike a' b' m' m₁'
   ran_alike cs m m₁ a a' b b' m' m₁' same room p q = (
     p.answered ∙ (λ i. answers order (same i) (take (length (room i)) cs) ++ drop (length (answers order (same i) (take (length (room i)) cs))) (room i)) ∙ sym q.answered,
     p.left ∙ (λ i. after order (same i) (take (length (room i)) cs)) ∙ sym q.left,

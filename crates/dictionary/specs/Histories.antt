@@ -35,14 +35,13 @@ module _ {K : Type 0} (order : K → K → Ordering) where
   after m (c ∷ cs) = after (calling c m).after cs
 
   -- the answers stand at the front of the room, and the rest of the room is as it was
-  pub record Ran (m : Meaning K) (calls : List (Call K)) (room room' : List (Answer K)) (m' : Meaning K) (sound : Type 0) : Type 0 where
+  pub record Ran (m : Meaning K) (calls : List (Call K)) (room room' : List (Answer K)) (m' : Meaning K) : Type 0 where
     pub answered : room' ≡ answers m calls ++ drop (length (answers m calls)) room
     pub left : m' ≡ after m calls
-    pub stays : sound
 
   -- as many calls are carried out as there is room for answers
-  abbrev pub Runs : {D : Type 0} → (D → Meaning K) → (D → Type 0) → D → D → List (Call K) → List (Answer K) → List (Answer K) → Type 0
-  Runs meaning sound d d' calls room room' = sound d → Ran (meaning d) (take (length room) calls) room room' (meaning d') (sound d')
+  abbrev pub Runs : {D : Type 0} → (D → Meaning K) → D → D → List (Call K) → List (Answer K) → List (Answer K) → Type 0
+  Runs meaning d d' calls room room' = Ran (meaning d) (take (length room) calls) room room' (meaning d')
 
 -- key n is still key n
 abbrev pub Keeps : {K : Type 0} → Meaning K → Meaning K → Type 0

@@ -10,7 +10,7 @@ use crate::key::Key;
 // A `match` and no closure: calls are values, so that lists of them can be spoken of.
 /// Carries out one call.
 pub fn carry_out<K: Key, D: Dictionary<K>>(dictionary: &mut D, call: &Call<K>) -> Answer<K>
-    ensures { Does D.Dictionary.meaning D.Dictionary.sound dictionary.old dictionary.new result (calling K.Key.order call.now) }
+    ensures { Does D.Dictionary.meaning dictionary.old dictionary.new result (calling K.Key.order call.now) }
 {
     match call {
         Call::Size => Answer::Size(dictionary.size()),
@@ -30,8 +30,8 @@ pub fn replay<K: Key, D: Dictionary<K>>(
     calls: &[Call<K>],
     answers: &mut [Answer<K>],
 )
-    ensures runs { Runs K.Key.order D.Dictionary.meaning D.Dictionary.sound dictionary.old dictionary.new calls.now answers.old answers.new }
-    ensures keeps { D.Dictionary.sound dictionary.old → Keeps (D.Dictionary.meaning dictionary.old) (D.Dictionary.meaning dictionary.new) }
+    ensures runs { Runs K.Key.order D.Dictionary.meaning dictionary.old dictionary.new calls.now answers.old answers.new }
+    ensures keeps { Keeps (D.Dictionary.meaning dictionary.old) (D.Dictionary.meaning dictionary.new) }
 {
     for (i, answer) in answers.iter_mut().enumerate() {
         let Some(call) = calls.get(i) else {
@@ -49,9 +49,9 @@ pub fn side_by_side<K: Key, D: Dictionary<K>, E: Dictionary<K>>(
     left_answers: &mut [Answer<K>],
     right_answers: &mut [Answer<K>],
 )
-    ensures left { Runs K.Key.order D.Dictionary.meaning D.Dictionary.sound left.old left.new calls.now left_answers.old left_answers.new }
-    ensures right { Runs K.Key.order E.Dictionary.meaning E.Dictionary.sound right.old right.new calls.now right_answers.old right_answers.new }
-    ensures alike { D.Dictionary.sound left.old → E.Dictionary.sound right.old → D.Dictionary.meaning left.old ≡ E.Dictionary.meaning right.old → left_answers.old ≡ right_answers.old → Alike left_answers.new right_answers.new (D.Dictionary.meaning left.new) (E.Dictionary.meaning right.new) }
+    ensures left { Runs K.Key.order D.Dictionary.meaning left.old left.new calls.now left_answers.old left_answers.new }
+    ensures right { Runs K.Key.order E.Dictionary.meaning right.old right.new calls.now right_answers.old right_answers.new }
+    ensures alike { D.Dictionary.meaning left.old ≡ E.Dictionary.meaning right.old → left_answers.old ≡ right_answers.old → Alike left_answers.new right_answers.new (D.Dictionary.meaning left.new) (E.Dictionary.meaning right.new) }
 {
     replay(left, calls, left_answers);
     replay(right, calls, right_answers);

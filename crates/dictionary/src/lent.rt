@@ -6,9 +6,7 @@ use crate::refusals::{Absent, Full};
 impl<'s, K: Key, D: Dictionary<K>> Dictionary<K> for &'s mut D {
     ghost meaning = { λ d. D.Dictionary.meaning d.now };
 
-    ghost sound = { λ d. D.Dictionary.sound d.now };
-
-    ghost different = { λ d s. D.Dictionary.different d.now s };
+    ghost different = { λ d. D.Dictionary.different d.now };
 
     ghost within = { λ d. D.Dictionary.within d.now };
 

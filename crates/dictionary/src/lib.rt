@@ -25,9 +25,6 @@ pub mod worked;
 pub trait Dictionary<K: Key> {
     ghost meaning: { Self → Meaning K };
 
-    // What a make's `new` establishes and every call keeps: the make's own matter, such as a tree that is in order.
-    ghost sound: { Self → Type 0 };
-
     /// The number of keys. It is no ask, and neither are the next two.
     fn size(&self) -> u32
         ensures { result ≡ length (meaning self.now).keys };
@@ -40,18 +37,18 @@ pub trait Dictionary<K: Key> {
 
     /// The key's number, or nothing if it isn't in the list.
     fn find(&mut self, k: &K) -> Option<u32>
-        ensures { Does meaning sound self.old self.new result (finding K.Key.order k.now) };
+        ensures { Does meaning self.old self.new result (finding K.Key.order k.now) };
 
     /// The key's number; a key that isn't in the list is appended, and Full if there is no room.
     fn name(&mut self, k: &K) -> Result<u32, Full>
-        ensures { Does meaning sound self.old self.new result (naming K.Key.order k.now) };
+        ensures { Does meaning self.old self.new result (naming K.Key.order k.now) };
 
     /// Key n, or Absent.
     fn key(&mut self, n: u32) -> Result<K, Absent>
-        ensures { Does meaning sound self.old self.new result (keying n) };
+        ensures { Does meaning self.old self.new result (keying n) };
 
     // What is true of every dictionary.
-    ghost different: { (d : Self) → sound d → Different (meaning d).keys };
+    ghost different: { (d : Self) → Different (meaning d).keys };
 
     ghost within: { (d : Self) → length (meaning d).keys ≤ (meaning d).capacity };
 

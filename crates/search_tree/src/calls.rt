@@ -35,9 +35,7 @@ impl<'a, K: Key> SearchTree<'a, K> {
 impl<'a, K: Key> Dictionary<K> for SearchTree<'a, K> {
     ghost meaning = { λ t. meaning_of t.rows.now t.used t.asks };
 
-    ghost sound = { λ _. Unit {0} };
-
-    ghost different = { λ t _. different_from (keys t.rows.now t.used) (one_place K.Key.order t.rows.now t.used t.ordered) };
+    ghost different = { λ t. different_from (keys t.rows.now t.used) (one_place K.Key.order t.rows.now t.used t.ordered) };
 
     ghost within = { λ t. held_within (λ w. w.key) t.rows.now t.used t.long };
 
@@ -58,7 +56,7 @@ impl<'a, K: Key> Dictionary<K> for SearchTree<'a, K> {
     }
 
     fn find(&mut self, k: &K) -> Option<u32>
-        ensures does { Does (λ t. meaning_of t.rows.now t.used t.asks) (λ _. Unit {0}) self.old self.new result (finding K.Key.order k.now) }
+        ensures does { Does (λ t. meaning_of t.rows.now t.used t.asks) self.old self.new result (finding K.Key.order k.now) }
         ensures rows { self.new.rows.now ≡ self.old.rows.now }
         ensures lent { self.new.rows.ghost_name ≡ self.old.rows.ghost_name }
     {
@@ -67,7 +65,7 @@ impl<'a, K: Key> Dictionary<K> for SearchTree<'a, K> {
     }
 
     fn name(&mut self, k: &K) -> Result<u32, Full>
-        ensures does { Does (λ t. meaning_of t.rows.now t.used t.asks) (λ _. Unit {0}) self.old self.new result (naming K.Key.order k.now) }
+        ensures does { Does (λ t. meaning_of t.rows.now t.used t.asks) self.old self.new result (naming K.Key.order k.now) }
         ensures beyond { beyond self.new.rows.now ≡ beyond self.old.rows.now }
         ensures lent { self.new.rows.ghost_name ≡ self.old.rows.ghost_name }
     {
@@ -87,7 +85,7 @@ impl<'a, K: Key> Dictionary<K> for SearchTree<'a, K> {
     }
 
     fn key(&mut self, n: u32) -> Result<K, Absent>
-        ensures does { Does (λ t. meaning_of t.rows.now t.used t.asks) (λ _. Unit {0}) self.old self.new result (keying n) }
+        ensures does { Does (λ t. meaning_of t.rows.now t.used t.asks) self.old self.new result (keying n) }
         ensures rows { self.new.rows.now ≡ self.old.rows.now }
         ensures lent { self.new.rows.ghost_name ≡ self.old.rows.ghost_name }
     {

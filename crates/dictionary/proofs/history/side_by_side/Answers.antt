@@ -6,5 +6,5 @@ returns g c =
     record {
       left = c.replay.ensures.runs;
       right = c.replay-2.ensures.runs;
-      alike = λ s s' same room. ran_alike g.K.Key.order c.args.calls.now _ _ _ _ _ _ _ _ same room (c.replay.ensures.runs s) (c.replay-2.ensures.runs s');
+      alike = λ same room. ran_alike g.K.Key.order c.args.calls.now _ _ _ _ _ _ _ _ same room c.replay.ensures.runs c.replay-2.ensures.runs;
     }

@@ -9,7 +9,7 @@ use Rattle.dictionary.proofs.worked.worked_run.Goals as goal
 use Rattle.std.specs.Ordering.{nat_cmp}
 
 -- fourteen calls that answer as worked out
-answered : (calls : List (Call ℕ)) (room room' : List (Answer ℕ)) (m m' : Meaning ℕ) {sound : Type 0} → answers nat_cmp (new 2) (take 14 calls) ≡ worked → m ≡ new 2 → length room ≡ 14 → Ran nat_cmp m (take (length room) calls) room room' m' sound → room' ≡ worked
+answered : (calls : List (Call ℕ)) (room room' : List (Answer ℕ)) (m m' : Meaning ℕ) → answers nat_cmp (new 2) (take 14 calls) ≡ worked → m ≡ new 2 → length room ≡ 14 → Ran nat_cmp m (take (length room) calls) room room' m' → room' ≡ worked
 answered calls room room' m m' says begun long ran =
     ran.answered
     ∙ (λ i. answers nat_cmp (begun i) (take (long i) calls) ++ drop (length (answers nat_cmp (begun i) (take (long i) calls))) room)
@@ -17,4 +17,4 @@ answered calls room room' m m' says begun long ran =
     ∙ ap (λ ys. worked ++ ys) (drop_all 14 room (omega arith))
 
 pub returns : goal.returns
-returns g c sound begun long = answered _ _ _ _ _ refl begun long (c.replay.ensures.runs sound)
+returns g c begun long = answered _ _ _ _ _ refl begun long c.replay.ensures.runs

@@ -7,19 +7,19 @@ use Rattle.search_tree.specs.Tree.{keys}
 use Rattle.search_tree.proofs.calls.SearchTreeDictionary.name.Goals as goal
 
 pub returns-in-Ok-clause-does : goal.returns-in-Ok-clause-does
-returns-in-Ok-clause-does g c sound = did_old g.K.Key.order c.args.k.now _ _ _ _ c.one_more-self.ensures sound _ (tree_number g.K.Key.order g.met.K.Key.same c.args.self.now.rows.now c.args.self.now.used c.args.self.now.long c.args.self.now.links c.args.self.now.ordered c.args.k.now _ c.in-Ok.ensures.ends)
+returns-in-Ok-clause-does g c = did_old g.K.Key.order c.args.k.now _ _ _ _ c.one_more-self.ensures _ (tree_number g.K.Key.order g.met.K.Key.same c.args.self.now.rows.now c.args.self.now.used c.args.self.now.long c.args.self.now.links c.args.self.now.ordered c.args.k.now _ c.in-Ok.ensures.ends)
 
 pub returns-then-size-capacity-clause-does : goal.returns-then-size-capacity-clause-does
-returns-then-size-capacity-clause-does g c sound =
+returns-then-size-capacity-clause-does g c =
     let ks = keys c.args.self.now.rows.now c.args.self.now.used in
     did_append g.K.Key.order c.args.k.now ks _ _ _ c.one_more-self.ensures (tree_number g.K.Key.order g.met.K.Key.same c.args.self.now.rows.now c.args.self.now.used c.args.self.now.long c.args.self.now.links c.args.self.now.ordered c.args.k.now _ c.in-Err.ensures.ends) _ _
-    (appended c.args.k.now ks _ _ c.size-size.result (sym c.size-size.ensures) sound _ (most (length c.hang.new.rows)) (omega arith) c.hang.ensures.keys (ap most c.hang.auto.rows))
+    (appended c.args.k.now ks _ _ c.size-size.result (sym c.size-size.ensures) _ (most (length c.hang.new.rows)) (omega arith) c.hang.ensures.keys (ap most c.hang.auto.rows))
 
 pub returns-else-size-capacity-clause-does : goal.returns-else-size-capacity-clause-does
-returns-else-size-capacity-clause-does g c sound =
+returns-else-size-capacity-clause-does g c =
     let ks = keys c.args.self.now.rows.now c.args.self.now.used in
     did_append g.K.Key.order c.args.k.now ks _ _ _ c.one_more-self.ensures (tree_number g.K.Key.order g.met.K.Key.same c.args.self.now.rows.now c.args.self.now.used c.args.self.now.long c.args.self.now.links c.args.self.now.ordered c.args.k.now _ c.in-Err.ensures.ends) _ _
-    (refused c.args.k.now ks _ _ c.size-size.result (sym c.size-size.ensures) sound (omega arith))
+    (refused c.args.k.now ks _ _ c.size-size.result (sym c.size-size.ensures) (omega arith))
 
 pub returns-then-size-capacity-clause-beyond : goal.returns-then-size-capacity-clause-beyond
 returns-then-size-capacity-clause-beyond g c =
