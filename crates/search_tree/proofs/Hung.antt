@@ -44,11 +44,11 @@ module _ {K : Type 0} (order : K → K → Ordering) (rows : List (TreeRow K)) (
 pub record Hung {K : Type 0} (order : K → K → Ordering) (rows : List (TreeRow K)) (n : ℕ) (k : K) (rows' : List (TreeRow K)) : Type 0 where
   pub linked : Linked (n + 1) rows'
   pub held : keys rows' (n + 1) ≡ keys rows n ++ k ∷ []
-  pub ordered : InOrder order n rows → InOrder order (n + 1) rows'
+  pub ordered : InOrder order (n + 1) rows'
   pub rest : drop (n + 1) rows' ≡ drop (n + 1) rows
 
 -- A row for k at the end, and then at p a row v that differs from what stands there in a link at most.
-module _ {K : Type 0} (order : K → K → Ordering) (rows : List (TreeRow K)) (n : ℕ) (k : K) (itself : order k k ≡ Equal) (long : n < length rows) (links : Linked n rows) (fresh : TreeRow K) (blank : (fresh.key ≡ k) × (fresh.left ≡ None) × (fresh.right ≡ None)) where
+module _ {K : Type 0} (order : K → K → Ordering) (rows : List (TreeRow K)) (n : ℕ) (k : K) (itself : order k k ≡ Equal) (long : n < length rows) (links : Linked n rows) (reached : InOrder order n rows) (fresh : TreeRow K) (blank : (fresh.key ≡ k) × (fresh.left ≡ None) × (fresh.right ≡ None)) where
   abbrev pub longer : List (TreeRow K)
   longer = set rows n fresh
 
@@ -62,7 +62,7 @@ module _ {K : Type 0} (order : K → K → Ordering) (rows : List (TreeRow K)) (
   post rows' t e grown is rest = record {
     linked = subst (λ m. Linked m rows') (sym (add-one n)) (links_grown n _ _ _ _ t grown links);
     held = is;
-    ordered = λ reached i y.
+    ordered = λ i y.
         subst (λ ks. slice_get ks i ≡ Some y → found (sought order ks (lefts rows') (rights rows') y) ≡ suc i) (sym is)
         (reached_grown order (keys rows n) k itself (lefts rows) (rights rows) (lefts rows') (rights rows') t
         (subst (λ m. Grown m (lefts rows) (rights rows) (lefts rows') (rights rows') t) (sym n_long) grown)

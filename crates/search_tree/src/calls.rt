@@ -4,7 +4,6 @@ ghost use Rattle.dictionary.specs.Does.{Does};
 ghost use Rattle.dictionary.specs.Facts.{different_from, held_within, most_small};
 ghost use Rattle.dictionary.specs.Meaning.{new, finding, naming, keying};
 ghost use Rattle.dictionary.specs.Rows.{beyond};
-ghost use Rattle.search_tree.specs.Tree.{keys};
 ghost use Rattle.search_tree.specs.TreeMeaning.{meaning_of, one_place};
 
 use crate::hang::hang;
@@ -20,7 +19,7 @@ impl<'a, K: Key> SearchTree<'a, K> {
     /// A tree with no keys and no asks. Its capacity is the number of rows, up to 16,777,216; what they hold does not
     /// matter.
     pub fn new(rows: &'a mut [TreeRow<K>]) -> SearchTree<'a, K>
-        ensures meaning { meaning_of result.rows.now result.used result.asks ≡ new (length rows.old) }
+        ensures meaning { meaning_of result ≡ new (length rows.old) }
         ensures rows { result.rows.now ≡ rows.old }
         ensures lent { result.rows.ghost_name ≡ rows.entry.ghost_name }
     {
@@ -33,9 +32,9 @@ impl<'a, K: Key> SearchTree<'a, K> {
 }
 
 impl<'a, K: Key> Dictionary<K> for SearchTree<'a, K> {
-    ghost meaning = { λ t. meaning_of t.rows.now t.used t.asks };
+    ghost meaning = { meaning_of };
 
-    ghost different = { λ t. different_from (keys t.rows.now t.used) (one_place K.Key.order t.rows.now t.used t.ordered) };
+    ghost different = { λ t. different_from (meaning_of t).keys (one_place K.Key.order t.rows.now t.used t.ordered) };
 
     ghost within = { λ t. held_within (λ w. w.key) t.rows.now t.used t.long };
 
@@ -56,7 +55,7 @@ impl<'a, K: Key> Dictionary<K> for SearchTree<'a, K> {
     }
 
     fn find(&mut self, k: &K) -> Option<u32>
-        ensures does { Does (λ t. meaning_of t.rows.now t.used t.asks) self.old self.new result (finding K.Key.order k.now) }
+        ensures does { Does meaning_of self.old self.new result (finding K.Key.order k.now) }
         ensures rows { self.new.rows.now ≡ self.old.rows.now }
         ensures lent { self.new.rows.ghost_name ≡ self.old.rows.ghost_name }
     {
@@ -65,7 +64,7 @@ impl<'a, K: Key> Dictionary<K> for SearchTree<'a, K> {
     }
 
     fn name(&mut self, k: &K) -> Result<u32, Full>
-        ensures does { Does (λ t. meaning_of t.rows.now t.used t.asks) self.old self.new result (naming K.Key.order k.now) }
+        ensures does { Does meaning_of self.old self.new result (naming K.Key.order k.now) }
         ensures beyond { beyond self.new.rows.now ≡ beyond self.old.rows.now }
         ensures lent { self.new.rows.ghost_name ≡ self.old.rows.ghost_name }
     {
@@ -85,7 +84,7 @@ impl<'a, K: Key> Dictionary<K> for SearchTree<'a, K> {
     }
 
     fn key(&mut self, n: u32) -> Result<K, Absent>
-        ensures does { Does (λ t. meaning_of t.rows.now t.used t.asks) self.old self.new result (keying n) }
+        ensures does { Does meaning_of self.old self.new result (keying n) }
         ensures rows { self.new.rows.now ≡ self.old.rows.now }
         ensures lent { self.new.rows.ghost_name ≡ self.old.rows.ghost_name }
     {

@@ -13,9 +13,10 @@ pub(crate) fn hang<K: Key>(rows: &mut [TreeRow<K>], used: usize, slot: Slot, k: 
     requires room { used < most (length rows.old) }
     requires links { Linked used rows.old }
     requires slot { Err slot ≡ ends K.Key.order used rows.old k.now }
+    requires ordered { InOrder K.Key.order used rows.old }
     ensures links { Linked (used + 1) rows.new }
     ensures keys { keys rows.new (used + 1) ≡ keys rows.old used ++ k.now ∷ [] }
-    ensures ordered { InOrder K.Key.order used rows.old → InOrder K.Key.order (used + 1) rows.new }
+    ensures ordered { InOrder K.Key.order (used + 1) rows.new }
     ensures rest { drop (used + 1) rows.new ≡ drop (used + 1) rows.old }
 {
     rows[used] = TreeRow::blank(*k);
