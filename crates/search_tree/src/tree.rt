@@ -6,8 +6,8 @@ ghost use Rattle.search_tree.specs.Tree.{Linked, InOrder};
 use crate::row::TreeRow;
 use dictionary::key::Key;
 
-/// A dictionary over lent rows, one key a row, that uses only the order of its keys. What needs no order is a ghost
-/// field, so that a walk stays within the rows and ends, whatever they held before.
+/// A dictionary over lent rows, one key a row, that uses only the order of its keys. Its links and its order are ghost
+/// fields, so that a walk stays within the rows and ends, whatever they held before, and finds each key.
 // The rows are the caller's memory, so a count stands beside them. Rows, count and asks are no struct that the trie shares: out of a struct with ghost
 // fields that lies in another the checker does not cover lending a part of the rows.
 #[derive(Drop)]
