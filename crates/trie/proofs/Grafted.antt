@@ -1,50 +1,37 @@
 -- The trie in the rows with one key more, as the code has them. Assumes nothing.
-use Rattle.std.proofs.Common.{◌≡◌, ℕ, suc, ◌+◌, ◌-◌, ◌<◌, ◌≤◌, Bool, true, false, not, ◌⊎◌, List, [], ◌∷◌, ◌++◌, length, get_or, drop, set, Ok, Some, sym, refl, ap, ◌∙◌, subst, inl, inr, ⊎_elim, add-one, arith}
+use Rattle.std.proofs.Common.{◌≡◌, ℕ, suc, ◌+◌, ◌-◌, ◌<◌, ◌≤◌, Bool, true, false, not, ◌⊎◌, List, [], ◌∷◌, ◌++◌, length, get_or, drop, set, sym, refl, ap, ◌∙◌, subst, inl, inr, ⊎_elim, add-one, arith}
+use Rattle.std.proofs.Math.Logic.{∥∥₁_map}
 use Rattle.std.proofs.lemmas.List.{length-set, drop-set-lt}
 use Rattle.std.proofs.lemmas.Bool.{cases_lt, cases_eq}
 use Rattle.trie.specs.Bits.{bit, number}
 use Rattle.dictionary.specs.Facts.{held_long}
-use Rattle.dictionary.specs.Does.{Did}
-use Rattle.dictionary.specs.Meaning.{most, append, meaning}
-use Rattle.dictionary.specs.Rows.{beyond, column}
+use Rattle.dictionary.specs.Meaning.{most}
+use Rattle.dictionary.specs.Rows.{column}
 use Rattle.dictionary.specs.declared.rows.Slot.{Slot}
 use Rattle.dictionary.specs.declared.rows.Slot.TheVariants.{Root, Left, Right}
-use Rattle.trie.specs.Trie.{link_number, Under, at, go, Ends, ends_at, ends_on, Good, Goods, Sorted, Hooked, InPlace, PartsFrom, SideAt, SlotAt, Turned, bits_of, side, child, crits, keys}
-use Rattle.trie.specs.TrieFacts.{goods_in}
-use Rattle.trie.specs.TrieMeaning.{Forks, meaning_of, Sound}
-use Rattle.trie.specs.declared.patricia.Trie.{Trie}
+use Rattle.trie.specs.Trie.{link_number, Under, at, go, Ends, ends_at, ends_on, Good, Goods, Sorted, Hooked, InPlace, Linked, Rooted, Sound, PartsFrom, SideAt, SlotAt, Turned, bits_of, side, child, crits, keys}
+use Rattle.trie.specs.TrieFacts.{goods}
+use Rattle.trie.specs.TrieMeaning.{Forks}
 use Rattle.trie.specs.declared.place.Place.{Place}
 use Rattle.trie.specs.declared.row.Hook.{Hook}
 use Rattle.trie.specs.declared.row.TrieRow.{TrieRow}
 use Rattle.trie.proofs.Grafts.{Grown, sides, goods_grown, root_kept, root_new, into, new_under, still, nodes_grown}
-use Rattle.dictionary.proofs.Held.{old_of, new_of, held_more, held_kept, column_same, column_other, column_kept, drop_later}
-use Rattle.dictionary.proofs.Numbers.{appended}
+use Rattle.dictionary.proofs.Held.{old_of, new_of, held_more, held_kept, column_same, column_other, column_kept}
 
 -- a walk ends at a leaf under its link
 pub ends_under : (child : Bool → ℕ → ℕ) (crit : ℕ → ℕ) (x : ℕ → Bool) (j l : ℕ) → Ends child crit x j l → Under child j l
 ends_under child crit x j l (ends_at l₁ h e) = at l h e
 ends_under child crit x j l (ends_on l₁ h r) = go (x (crit (l - 4294967296))) l h (ends_under child crit x j _ r)
 
--- what the links of rows with one more are, and the root afterwards
-pub record Links {K : Type 0} (n : ℕ) (rows : List (TrieRow K)) (root : ℕ) : Type 0 where
-  pub long : n + 1 ≤ most (length rows)
-  pub lefts : Goods (crits rows) (n + 1) (child rows false)
-  pub rights : Goods (crits rows) (n + 1) (child rows true)
-  pub rooted : Good (crits rows) (n + 1) 0 root
+-- what it is to hang a row for the key k
+pub record Grafted {K : Type 0} (spelling : K → List ℕ) (rows : List (TrieRow K)) (n root : ℕ) (k : K) (rows' : List (TrieRow K)) (root' : ℕ) : Type 0 where
+  pub linked : Linked rows' (n + 1)
+  pub rooted : Rooted rows' (n + 1) root'
+  pub held : keys rows' (n + 1) ≡ keys rows n ++ k ∷ []
+  pub sound : Sound rows' spelling (n + 1) root'
+  pub rest : drop (n + 1) rows' ≡ drop (n + 1) rows
 
--- what it is to append the key k
-pub record Grafted {K : Type 0} (spelling : K → List ℕ) (t : Trie K) (k : K) (rows' : List (TrieRow K)) (root' : ℕ) : Type 0 where
-  pub links : Links t.used rows' root'
-  pub does : Sound spelling t → Did (append k (meaning_of t)) (Ok (t.used + 1)) (meaning (keys rows' (t.used + 1)) (most (length rows')) t.asks) (InPlace rows' spelling (t.used + 1) root')
-  pub rest : beyond rows' ≡ beyond t.rows.now
-
-module _ {K : Type 0} {spelling : K → List ℕ} {t : Trie K} {k : K} {p : Place} {h : Hook} {w : TrieRow K} (f : Forks spelling t k p h w) where
-  abbrev rows : List (TrieRow K)
-  rows = t.rows.now
-
-  abbrev n : ℕ
-  n = t.used
-
+module _ {K : Type 0} {spelling : K → List ℕ} (rows : List (TrieRow K)) (n root : ℕ) {k : K} {p : Place} {h : Hook} {w : TrieRow K} (f : Forks spelling n k p h w) where
   abbrev d : ℕ
   d = number p
 
@@ -60,7 +47,7 @@ module _ {K : Type 0} {spelling : K → List ℕ} {t : Trie K} {k : K} {p : Plac
   abbrev bits' : ℕ → ℕ → Bool
   bits' = bits_of spelling (keys rows n ++ k ∷ [])
 
-  module _ (room : n < most (length rows)) (parts : PartsFrom rows spelling n (link_number t.root) k d) (hooked : Hooked (child rows) (crits rows) n (link_number t.root) x d (Some h)) where
+  module _ (room : n < most (length rows)) (linked : Linked rows n) (rooted : Rooted rows n root) (sound : Sound rows spelling n root) (parts : PartsFrom rows spelling n root k d) (hooked : Hooked (child rows) (crits rows) n root x d h) where
     inside : n < length rows
     inside = omega (arith, room)
 
@@ -77,11 +64,11 @@ module _ {K : Type 0} {spelling : K → List ℕ} {t : Trie K} {k : K} {p : Plac
     some = omega (arith, parts.1)
 
     -- from the columns of the new rows
-    module _ (rows' : List (TrieRow K)) (root' : ℕ) (long : length rows' ≡ length rows)
+    module _ (rows' : List (TrieRow K)) (root' : ℕ)
         (crit_kept : (m : ℕ) → m < n → crits rows' m ≡ crits rows m) (crit_new : crits rows' n ≡ d)
         (child_is : (b : Bool) (m : ℕ) → m < n → (child rows' b m ≡ child rows b m) ⊎ ((child rows b m ≡ L) × (child rows' b m ≡ 4294967296 + n) × (crits rows m < d) × (x (crits rows m) ≡ b)))
         (child_new : (b : Bool) → child rows' b n ≡ side b w)
-        (root_is : (root' ≡ (link_number t.root)) ⊎ (((link_number t.root) ≡ L) × (root' ≡ 4294967296 + n))) where
+        (root_is : (root' ≡ root) ⊎ ((root ≡ L) × (root' ≡ 4294967296 + n))) where
       abbrev Here : Type 0
       Here = Grown n d L parts.0 (crits rows) (crits rows') (child rows) (child rows') bits bits'
 
@@ -102,7 +89,7 @@ module _ {K : Type 0} {spelling : K → List ℕ} {t : Trie K} {k : K} {p : Plac
       }
 
       old_goods : (b : Bool) → Goods (crits rows) n (child rows b)
-      old_goods = goods_in t
+      old_goods = goods rows n linked
 
       all_goods : (b : Bool) → Goods (crits rows') (n + 1) (child rows' b)
       all_goods b = subst (λ q. Goods (crits rows') q (child rows' b)) (sym (add-one n)) (goods_grown grown old_goods b)
@@ -110,45 +97,39 @@ module _ {K : Type 0} {spelling : K → List ℕ} {t : Trie K} {k : K} {p : Plac
       new_root : Good (crits rows') (suc n) 0 root'
       new_root =
           ⊎_elim
-          (λ e. subst (Good (crits rows') (suc n) 0) (sym e) (root_kept grown old_goods (link_number t.root) (t.rooted some)))
+          (λ e. subst (Good (crits rows') (suc n) 0) (sym e) (root_kept grown old_goods root (rooted some)))
           (λ p. subst (Good (crits rows') (suc n) 0) (sym p.1) (root_new grown old_goods))
           root_is
 
-      links : Links n rows' root'
-      links = record {
-        long = omega (arith, room);
-        lefts = all_goods false;
-        rights = all_goods true;
-        rooted = subst (λ q. Good (crits rows') q 0 root') (sym (add-one n)) new_root;
-      }
-
-      old_under : (i : ℕ) → Under (child rows') i (link_number t.root) → Under (child rows') i root'
+      old_under : (i : ℕ) → Under (child rows') i root → Under (child rows') i root'
       old_under i u =
           ⊎_elim
           (λ e. subst (Under (child rows') i) (sym e) u)
           (λ p. subst (Under (child rows') i) (sym p.1) (into grown old_goods i (subst (Under (child rows') i) p.0 u)))
           root_is
 
-      module _ (turned : Turned (child rows) (crits rows) n (link_number t.root) (child rows') root' (4294967296 + n) h.slot) (is_held : keys rows' (n + 1) ≡ keys rows n ++ k ∷ []) (rest : drop (n + 1) rows' ≡ drop (n + 1) rows) where
-        new_sorted : Sorted (child rows) (crits rows) bits n (link_number t.root) → Sorted (child rows') (crits rows') bits' (suc n) root'
+      module _ (turned : Turned (child rows) (crits rows) n root (child rows') root' (4294967296 + n) h.slot) (is_held : keys rows' (n + 1) ≡ keys rows n ++ k ∷ []) (rest : drop (n + 1) rows' ≡ drop (n + 1) rows) where
+        new_sorted : Sorted (child rows) (crits rows) bits n root → Sorted (child rows') (crits rows') bits' (suc n) root'
         new_sorted s = record {
           nodes = nodes_grown grown old_goods s.nodes;
           under = λ i h. ⊎_elim
-              (λ (old : i < n). old_under i (still grown old_goods i (link_number t.root) (s.under i old) 0 (t.rooted some)))
+              (λ (old : i < n). old_under i (still grown old_goods i root (s.under i old) 0 (rooted some)))
               (λ (new : n ≤ i).
               let is : n ≡ i = omega arith in
               subst (λ q. Under (child rows') q root') is (hooked.2 (child rows') root' (4294967296 + n) n turned (new_under grown old_goods)))
               (cases_lt i n);
         }
 
-        in_place : Sound spelling t → InPlace rows' spelling (n + 1) root'
+        in_place : InPlace rows spelling n root → InPlace rows' spelling (n + 1) root'
         in_place s = subst (λ q. Sorted (child rows') (crits rows') (bits_of spelling (keys rows' (n + 1))) q root') (sym (add-one n)) (subst (λ ks. Sorted (child rows') (crits rows') (bits_of spelling ks) (suc n) root') (sym is_held) (new_sorted s))
 
-        grafted : Grafted spelling t k rows' root'
+        grafted : Grafted spelling rows n root k rows' root'
         grafted = record {
-          links = links;
-          does = λ s. appended k (keys rows n) (most (length rows)) t.asks n n_long (in_place s) (keys rows' (n + 1)) (most (length rows')) room is_held (ap most long);
-          rest = ap (λ m. drop (most m) rows') long ∙ drop_later (n + 1) (most (length rows)) rows' rows (omega (arith, room)) rest;
+          linked = (all_goods false, all_goods true);
+          rooted = λ _. subst (λ q. Good (crits rows') q 0 root') (sym (add-one n)) new_root;
+          held = is_held;
+          sound = ∥∥₁_map sound in_place;
+          rest = rest;
         }
 
     -- the new row alone
@@ -170,18 +151,15 @@ module _ {K : Type 0} {spelling : K → List ℕ} {t : Trie K} {k : K} {p : Plac
     tests : crits longer n ≡ d
     tests = new (λ v. number v.place) ∙ ap number f.place
 
-    pub planted : Links n longer (link_number t.root)
-    planted = links longer (link_number t.root) (length-set rows n w) (old (λ v. number v.place)) tests (λ b m h. inl (old (side b) m h)) (λ b. new (side b)) (inl refl)
-
-    pub at_root : h.slot ≡ Root → (root' : ℕ) → root' ≡ 4294967296 + n → Grafted spelling t k longer root'
+    pub at_root : h.slot ≡ Root → (root' : ℕ) → root' ≡ 4294967296 + n → Grafted spelling rows n root k longer root'
     at_root e root' is =
-        grafted longer root' (length-set rows n w) (old (λ v. number v.place)) tests (λ b m h. inl (old (side b) m h)) (λ b. new (side b))
-        (inr (subst (λ s. SlotAt (child rows) (crits rows) n (link_number t.root) x d s L) e hooked.1, is))
-        (subst (Turned (child rows) (crits rows) n (link_number t.root) (child longer) root' (4294967296 + n)) (sym e) is)
+        grafted longer root' (old (λ v. number v.place)) tests (λ b m h. inl (old (side b) m h)) (λ b. new (side b))
+        (inr (subst (λ s. SlotAt (child rows) (crits rows) n root x d s L) e hooked.1, is))
+        (subst (Turned (child rows) (crits rows) n root (child longer) root' (4294967296 + n)) (sym e) is)
         longer_held longer_rest
 
     -- and then at q a row v that differs from what stands there in the link of the side b
-    module _ (b : Bool) (q : ℕ) (s : SideAt (child rows) (crits rows) n (link_number t.root) x d b q L) (d₀ v : TrieRow K) (same_key : v.key ≡ (get_or longer q d₀).key) (same_place : v.place ≡ (get_or longer q d₀).place) (same_side : side (not b) v ≡ side (not b) (get_or longer q d₀)) (link : side b v ≡ 4294967296 + n) where
+    module _ (b : Bool) (q : ℕ) (s : SideAt (child rows) (crits rows) n root x d b q L) (d₀ v : TrieRow K) (same_key : v.key ≡ (get_or longer q d₀).key) (same_place : v.place ≡ (get_or longer q d₀).place) (same_side : side (not b) v ≡ side (not b) (get_or longer q d₀)) (link : side b v ≡ 4294967296 + n) where
       abbrev pub edited : List (TrieRow K)
       edited = set longer q v
 
@@ -204,12 +182,12 @@ module _ {K : Type 0} {spelling : K → List ℕ} {t : Trie K} {k : K} {p : Plac
       elsewhere : (c : Bool) (m : ℕ) → (m ≡ q → ⊥) → child edited c m ≡ child longer c m
       elsewhere = by_side (λ c. (m : ℕ) → (m ≡ q → ⊥) → child edited c m ≡ child longer c m) apart (λ m h. kept (side (not b)) same_side m)
 
-      is_turned : ((link_number t.root) ≡ (link_number t.root)) × (child edited b q ≡ 4294967296 + n) × ((c : Bool) (m : ℕ) → m < n → crits rows m < crits rows q → child edited c m ≡ child rows c m)
+      is_turned : (root ≡ root) × (child edited b q ≡ 4294967296 + n) × ((c : Bool) (m : ℕ) → m < n → crits rows m < crits rows q → child edited c m ≡ child rows c m)
       is_turned = (refl, hung, λ c m h early. elsewhere c m (λ e. let r = ap (crits rows) e in omega arith) ∙ old (side c) m h)
 
-      at_side : Turned (child rows) (crits rows) n (link_number t.root) (child edited) (link_number t.root) (4294967296 + n) h.slot → Grafted spelling t k edited (link_number t.root)
+      at_side : Turned (child rows) (crits rows) n root (child edited) root (4294967296 + n) h.slot → Grafted spelling rows n root k edited root
       at_side turned =
-          grafted edited (link_number t.root) (length-set longer q v ∙ length-set rows n w)
+          grafted edited root
           (λ m h. tested m ∙ old (λ r. number r.place) m h) (tested n ∙ tests)
           (by_side (λ c. (m : ℕ) → m < n → (child edited c m ≡ child rows c m) ⊎ ((child rows c m ≡ L) × (child edited c m ≡ 4294967296 + n) × (crits rows m < d) × (x (crits rows m) ≡ c)))
           (λ m h. ⊎_elim
@@ -221,21 +199,21 @@ module _ {K : Type 0} {spelling : K → List ℕ} {t : Trie K} {k : K} {p : Plac
           (inl refl) turned
           (held_kept (λ r. r.key) longer (n + 1) q d₀ v same_key ∙ longer_held) (drop-set-lt (n + 1) longer q v (omega (arith, s.1)) ∙ longer_rest)
 
-    slot_is : (s : Slot) → h.slot ≡ s → SlotAt (child rows) (crits rows) n (link_number t.root) x d s L
-    slot_is s e = subst (λ r. SlotAt (child rows) (crits rows) n (link_number t.root) x d r L) e hooked.1
+    slot_is : (s : Slot) → h.slot ≡ s → SlotAt (child rows) (crits rows) n root x d s L
+    slot_is s e = subst (λ r. SlotAt (child rows) (crits rows) n root x d r L) e hooked.1
 
-    pub left_at : (q : ℕ) → h.slot ≡ Left q → SideAt (child rows) (crits rows) n (link_number t.root) x d false q L
+    pub left_at : (q : ℕ) → h.slot ≡ Left q → SideAt (child rows) (crits rows) n root x d false q L
     left_at q e = slot_is (Left q) e
 
-    pub right_at : (q : ℕ) → h.slot ≡ Right q → SideAt (child rows) (crits rows) n (link_number t.root) x d true q L
+    pub right_at : (q : ℕ) → h.slot ≡ Right q → SideAt (child rows) (crits rows) n root x d true q L
     right_at q e = slot_is (Right q) e
 
-    pub at_left : (q : ℕ) → h.slot ≡ Left q → (d₀ v : TrieRow K) → v.key ≡ (get_or longer q d₀).key → v.place ≡ (get_or longer q d₀).place → v.right ≡ (get_or longer q d₀).right → link_number v.left ≡ 4294967296 + n → Grafted spelling t k (set longer q v) (link_number t.root)
+    pub at_left : (q : ℕ) → h.slot ≡ Left q → (d₀ v : TrieRow K) → v.key ≡ (get_or longer q d₀).key → v.place ≡ (get_or longer q d₀).place → v.right ≡ (get_or longer q d₀).right → link_number v.left ≡ 4294967296 + n → Grafted spelling rows n root k (set longer q v) root
     at_left q e d₀ v a b c l =
         let s = left_at q e in
-        at_side false q s d₀ v a b (ap link_number c) l (subst (Turned (child rows) (crits rows) n (link_number t.root) (child (set longer q v)) (link_number t.root) (4294967296 + n)) (sym e) (is_turned false q s d₀ v a b (ap link_number c) l))
+        at_side false q s d₀ v a b (ap link_number c) l (subst (Turned (child rows) (crits rows) n root (child (set longer q v)) root (4294967296 + n)) (sym e) (is_turned false q s d₀ v a b (ap link_number c) l))
 
-    pub at_right : (q : ℕ) → h.slot ≡ Right q → (d₀ v : TrieRow K) → v.key ≡ (get_or longer q d₀).key → v.place ≡ (get_or longer q d₀).place → v.left ≡ (get_or longer q d₀).left → link_number v.right ≡ 4294967296 + n → Grafted spelling t k (set longer q v) (link_number t.root)
+    pub at_right : (q : ℕ) → h.slot ≡ Right q → (d₀ v : TrieRow K) → v.key ≡ (get_or longer q d₀).key → v.place ≡ (get_or longer q d₀).place → v.left ≡ (get_or longer q d₀).left → link_number v.right ≡ 4294967296 + n → Grafted spelling rows n root k (set longer q v) root
     at_right q e d₀ v a b c l =
         let s = right_at q e in
-        at_side true q s d₀ v a b (ap link_number c) l (subst (Turned (child rows) (crits rows) n (link_number t.root) (child (set longer q v)) (link_number t.root) (4294967296 + n)) (sym e) (is_turned true q s d₀ v a b (ap link_number c) l))
+        at_side true q s d₀ v a b (ap link_number c) l (subst (Turned (child rows) (crits rows) n root (child (set longer q v)) root (4294967296 + n)) (sym e) (is_turned true q s d₀ v a b (ap link_number c) l))

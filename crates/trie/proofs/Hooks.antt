@@ -1,7 +1,10 @@
 -- The way to where a new inner node belongs, step by step. Assumes nothing.
-use Rattle.std.proofs.Common.{◌≡◌, ℕ, ◌+◌, ◌-◌, ◌<◌, ◌≤◌, Bool, true, false, List, get_or, Some, None, Option, sym, ap, ◌∙◌, subst, arith}
-use Rattle.trie.specs.Bits.{number}
-use Rattle.trie.specs.Trie.{Under, go, Good, SideAt, SlotAt, SideTurned, Turned, Way, Passes, Hooked, link_number, side, child, crits}
+use Rattle.std.proofs.Common.{◌≡◌, ℕ, ◌+◌, ◌-◌, ◌<◌, ◌≤◌, Bool, true, false, List, get_or, sym, ap, ◌∙◌, subst, arith}
+use Rattle.std.proofs.Math.Logic.{∥∥₁_elim}
+use mathlib.Core.HLevel.{⊥_prop}
+use Rattle.dictionary.specs.declared.key.Key.{Ghosts}
+use Rattle.trie.specs.Bits.{bit, number}
+use Rattle.trie.specs.Trie.{Under, go, Good, SideAt, SlotAt, SideTurned, Turned, Way, Passes, Hooked, PartsFrom, bits_of, link_number, side, child, crits, keys}
 use Rattle.trie.specs.declared.patricia.Trie.{Trie}
 use Rattle.trie.specs.declared.row.Hook.{Hook}
 use Rattle.trie.specs.declared.row.Link.{Link}
@@ -10,6 +13,7 @@ use Rattle.trie.specs.declared.row.TrieRow.{TrieRow}
 use Rattle.dictionary.specs.declared.rows.Slot.{Slot}
 use Rattle.dictionary.specs.declared.rows.Slot.TheVariants.{Root, Left, Right}
 use Rattle.trie.specs.TrieFacts.{goods_in}
+use Rattle.trie.proofs.Meetings.{same_bit}
 use Rattle.trie.proofs.Steps.{inner, m_is, node, crit_is, side_is, good_on, step_on}
 
 module _ (child : Bool → ℕ → ℕ) (crit : ℕ → ℕ) (n root : ℕ) (x : ℕ → Bool) (d : ℕ) where
@@ -50,18 +54,18 @@ module _ (child : Bool → ℕ → ℕ) (crit : ℕ → ℕ) (n root : ℕ) (x :
       way_right slot s way child' root' new i turned u = on_way child' root' new true turned slot s way i u
 
 -- the same at a trie: w is the row that was read
-module _ {K : Type 0} (t : Trie K) (x : ℕ → Bool) (d : ℕ) where
+module _ {K : Type 0} {key : _} {ord : _} {eq : _} {cmp : _} (t : Trie K key ord eq cmp) (x : ℕ → Bool) (d : ℕ) where
   abbrev rows : List (TrieRow K)
   rows = t.rows.now
 
   abbrev pub Hooks : Slot → ℕ → Type 0
   Hooks = Hooking (child rows) (crits rows) t.used (link_number t.root) x d
 
-  abbrev Found : Option Hook → Type 0
+  abbrev Found : Hook → Type 0
   Found = Hooked (child rows) (crits rows) t.used (link_number t.root) x d
 
-  pub hook_leaf : (slot : Slot) (l : Link) (i : ℕ) → l ≡ Leaf i → i < 4294967296 → Hooks slot (link_number l) → Found (Some (record { slot = slot; link = Leaf i }))
-  hook_leaf slot l i e leaf h = let is = ap link_number e in subst (λ q. Found (Some (record { slot = slot; link = q }))) e ((h.good.0, h.good.1, h.good.2, λ q. absurd (omega arith)), h.at, h.way, h.passes)
+  pub hook_leaf : (slot : Slot) (l : Link) (i : ℕ) → l ≡ Leaf i → i < 4294967296 → Hooks slot (link_number l) → Found (record { slot = slot; link = Leaf i })
+  hook_leaf slot l i e leaf h = let is = ap link_number e in subst (λ q. Found (record { slot = slot; link = q })) e ((h.good.0, h.good.1, h.good.2, λ q. absurd (omega arith)), h.at, h.way, h.passes)
 
   module _ (slot : Slot) (l : Link) (i : ℕ) (w : TrieRow K) (e : l ≡ Inner i) (is : w ≡ get_or rows i w) (h : Hooks slot (link_number l)) where
     abbrev here : ℕ
@@ -70,11 +74,8 @@ module _ {K : Type 0} (t : Trie K) (x : ℕ → Bool) (d : ℕ) where
     crit : crits rows (here - 4294967296) ≡ number w.place
     crit = crit_is t x here i w (ap link_number e) is h.good
 
-    pub hook_there : d < number w.place → Found (Some (record { slot = slot; link = Inner i }))
-    hook_there later = subst (λ q. Found (Some (record { slot = slot; link = q }))) e ((h.good.0, h.good.1, h.good.2, λ q. let c = crit in omega arith), h.at, h.way, h.passes)
-
-    pub hook_same : number w.place ≡ d → Found None
-    hook_same same = (here, inner t x here i w (ap link_number e) is h.good, h.good, crit ∙ same, h.passes)
+    pub hook_there : d < number w.place → Found (record { slot = slot; link = Inner i })
+    hook_there later = subst (λ q. Found (record { slot = slot; link = q })) e ((h.good.0, h.good.1, h.good.2, λ q. let c = crit in omega arith), h.at, h.way, h.passes)
 
     side_at : (b : Bool) → number w.place < d → x (number w.place) ≡ b → SideAt (child rows) (crits rows) t.used (link_number t.root) x d b (here - 4294967296) (side b w)
     side_at b early e₁ =
@@ -95,3 +96,19 @@ module _ {K : Type 0} (t : Trie K) (x : ℕ → Bool) (d : ℕ) where
 
     pub hook_right : number w.place < d → x (number w.place) ≡ true → Hooks (Right i) (side true w)
     hook_right early e₁ = subst (λ q. Hooks (Right q) (side true w)) (m_is t x here i w (ap link_number e) is h.good) (on true _ e₁ (side_at true early e₁) (way_right (child rows) (crits rows) t.used (link_number t.root) x d (goods_in t) here (inner t x here i w (ap link_number e) is h.good) slot h.at h.way))
+
+-- where the key first differs from the one that it meets at d, no inner node on the way tests d itself
+module _ {K : Type 0} {key : Ghosts K} {ord : _} {eq : _} {cmp : _} (t : Trie K key ord eq cmp) (k : K) (d : ℕ) (parts : PartsFrom t.rows.now key.spelling t.used (link_number t.root) k d) where
+  abbrev bits : ℕ → Bool
+  bits = bit (key.spelling k)
+
+  pub hook_early : (slot : Slot) (l : Link) (i : ℕ) (w : TrieRow K) → l ≡ Inner i → w ≡ get_or t.rows.now i w → Hooks t bits d slot (link_number l) → number w.place ≤ d → number w.place < d
+  hook_early slot l i w e is h low =
+      let here = link_number l in
+      let apart : number w.place ≡ d → ⊥ = λ same.
+      let tests : crits t.rows.now (here - 4294967296) ≡ d = crit_is t bits here i w (ap link_number e) is h.good ∙ same in
+      ∥∥₁_elim t.sound ⊥_prop (λ s.
+      let b = same_bit (child t.rows.now) (crits t.rows.now) (bits_of key.spelling (keys t.rows.now t.used)) t.used (goods_in t) s.nodes bits parts.0 here 0 h.good (inner t bits here i w (ap link_number e) is h.good) (h.passes parts.0 parts.2) in
+      parts.3.0 (ap bits (sym tests) ∙ sym b ∙ ap (bits_of key.spelling (keys t.rows.now t.used) parts.0) tests))
+      in
+      omega (arith, apart)

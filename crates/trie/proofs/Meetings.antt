@@ -1,14 +1,16 @@
 -- What the walk through a trie says of a key's number. Assumes nothing.
 use Rattle.std.proofs.Common.{◌≡◌, ℕ, suc, ◌+◌, ◌-◌, ◌<◌, ◌≤◌, Bool, List, [], map, get_or, Some, None, Ok, Err, Option, Result, Ordering, Equal, sym, refl, ap, ◌∙◌, subst, add-one, arith}
+use Rattle.std.proofs.Math.Logic.{∥∥₁_elim}
+use Rattle.std.proofs.Math.Nat.{ℕ_set}
 use Rattle.std.specs.List.{slice_get}
 use Rattle.std.specs.Option.{option_map}
 use Rattle.std.specs.Result.{result_ok}
 use Rattle.trie.specs.Bits.{bit}
 use Rattle.dictionary.specs.Meaning.{number_of}
 use Rattle.dictionary.specs.Facts.{within_rows}
-use Rattle.trie.specs.Trie.{link_number, Under, at, go, Ends, ends_at, ends_on, Good, Goods, Node, Hooked, PartsFrom, Meets, bits_of, keys, child, crits}
+use Rattle.trie.specs.Trie.{link_number, Under, at, go, Ends, ends_at, ends_on, Good, Goods, Node, PartsFrom, Meets, bits_of, keys, child, crits}
 use Rattle.trie.specs.TrieFacts.{goods_in, held_in, bits_at, one_place}
-use Rattle.trie.specs.TrieMeaning.{Sound}
+use Rattle.dictionary.specs.declared.key.Key.{Ghosts}
 use Rattle.trie.specs.declared.patricia.Trie.{Trie}
 use Rattle.trie.specs.declared.place.Place.{Place}
 use Rattle.trie.specs.declared.row.TrieRow.{TrieRow}
@@ -39,7 +41,13 @@ module _ (child : Bool → ℕ → ℕ) (crit : ℕ → ℕ) (bits : ℕ → ℕ
       let m = l - 4294967296 in
       (nodes m (good.1 inner, good.2 inner)).on (x (crit m)) j (ends_under child crit x j _ (on j l (x (crit m)) ends inner refl))
 
-module _ {K : Type 0} (order : K → K → Ordering) (same : (x y : K) → order x y ≡ Equal → x ≡ y) (spelling : K → List ℕ) (t : Trie K) (sound : Sound spelling t) (k : K) where
+module _ {K : Type 0} {key : Ghosts K} {ord : _} {eq : _} {cmp : _} (same : (x y : K) → key.order x y ≡ Equal → x ≡ y) (t : Trie K key ord eq cmp) (k : K) where
+  abbrev order : K → K → Ordering
+  order = key.order
+
+  abbrev spelling : K → List ℕ
+  spelling = key.spelling
+
   abbrev rows : List (TrieRow K)
   rows = t.rows.now
 
@@ -52,14 +60,14 @@ module _ {K : Type 0} (order : K → K → Ordering) (same : (x y : K) → order
   -- the key stands at the place
   pub met_here : order k k ≡ Equal → (i : ℕ) → slice_get ks i ≡ Some k → number_of order ks k ≡ Some (i + 1)
   met_here itself i is =
-      number_some order k ks (suc i) (λ j y at e. ap suc (one_place spelling t.rows.now t.used (link_number t.root) (within_rows t.long) (t.lefts, t.rights) t.rooted sound i j k is (at ∙ ap Some (sym (same k y e))))) i k is itself
+      number_some order k ks (suc i) (λ j y at e. ap suc (one_place spelling t.rows.now t.used (link_number t.root) (within_rows t.long) (t.lefts, t.rights) t.rooted t.sound i j k is (at ∙ ap Some (sym (same k y e))))) i k is itself
       ∙ ap Some (sym (add-one i))
 
   not_there : (d : ℕ) → PartsFrom rows spelling t.used (link_number t.root) k d → (i : ℕ) (y : K) → slice_get ks i ≡ Some y → order k y ≡ Equal → ⊥
   not_there d p i y is e =
       let own : get_or (map spelling ks) i [] ≡ spelling k = bits_at spelling ks i y is ∙ ap spelling (sym (same k y e)) in
       let ij : i ≡ p.0 =
-      ends_there (child rows) (crits rows) (bits_of spelling ks) t.used old_goods sound.nodes (bit (spelling k)) i (link_number t.root) (sound.under i (held_in t i y is)) p.0 0 (t.rooted (omega (arith, p.1))) (λ q. ap (λ s. bit s q) own) p.2
+      ∥∥₁_elim t.sound (ℕ_set i p.0) (λ s. ends_there (child rows) (crits rows) (bits_of spelling ks) t.used old_goods s.nodes (bit (spelling k)) i (link_number t.root) (s.under i (held_in t i y is)) p.0 0 (t.rooted (omega (arith, p.1))) (λ q. ap (λ s. bit s q) own) p.2)
       in
       p.3.0 (sym (ap (λ s. bit s d) own) ∙ ap (λ q. bits_of spelling ks q d) ij)
 
@@ -77,9 +85,3 @@ module _ {K : Type 0} (order : K → K → Ordering) (same : (x y : K) → order
   pub met : order k k ≡ Equal → (r : Result ℕ (Option Place)) → Meets rows spelling t.used (link_number t.root) k r → number_of order ks k ≡ option_map (λ i. i + 1) (result_ok r)
   met itself (Ok i) m = met_here itself i m.1
   met itself (Err p) m = met_err p m
-
-  -- no inner node on the way tests the place of the parting
-  pub hook_there : (d : ℕ) → PartsFrom rows spelling t.used (link_number t.root) k d → Hooked (child rows) (crits rows) t.used (link_number t.root) (bit (spelling k)) d None → ⊥
-  hook_there d p h =
-      let b = same_bit (child rows) (crits rows) (bits_of spelling ks) t.used old_goods sound.nodes (bit (spelling k)) p.0 h.0 0 h.2 h.1 (h.4 p.0 p.2) in
-      p.3.0 (ap (bit (spelling k)) (sym h.3) ∙ sym b ∙ ap (bits_of spelling ks p.0) h.3)

@@ -85,10 +85,9 @@ module _ (child : Bool → ℕ → ℕ) (crit : ℕ → ℕ) (n root : ℕ) wher
   abbrev pub Passes : (ℕ → Bool) → ℕ → Type 0
   Passes x l = (j : ℕ) → Ends child crit x j root → Ends child crit x j l
 
-  -- the hook for d, or an inner node on the way that tests d itself
-  abbrev pub Hooked : (ℕ → Bool) → ℕ → Option Hook → Type 0
-  Hooked x d (Some h) = Good crit n (d + 1) (link_number h.link) × SlotAt x d h.slot (link_number h.link) × Way h.slot × Passes x (link_number h.link)
-  Hooked x d None = (l : ℕ) × (4294967296 ≤ l) × Good crit n 0 l × (crit (l - 4294967296) ≡ d) × Passes x l
+  -- the hook for d
+  abbrev pub Hooked : (ℕ → Bool) → ℕ → Hook → Type 0
+  Hooked x d h = Good crit n (d + 1) (link_number h.link) × SlotAt x d h.slot (link_number h.link) × Way h.slot × Passes x (link_number h.link)
 
 -- the same of rows as the code has them
 abbrev pub side : {K : Type 0} → Bool → TrieRow K → ℕ
@@ -113,6 +112,10 @@ module _ {K : Type 0} (rows : List (TrieRow K)) where
 
   abbrev pub InPlace : (K → List ℕ) → ℕ → ℕ → Type 0
   InPlace spelling n root = Sorted child crits (bits_of spelling (keys n)) n root
+
+  -- what a trie is, as a fact that a ghost field holds
+  abbrev pub Sound : (K → List ℕ) → ℕ → ℕ → Type 0
+  Sound spelling n root = ∥ InPlace spelling n root ∥₁
 
   -- the walk for the key ends at one from which it first differs at the bit d
   abbrev pub PartsFrom : (K → List ℕ) → ℕ → ℕ → K → ℕ → Type 0

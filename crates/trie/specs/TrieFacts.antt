@@ -1,10 +1,12 @@
 -- No key stands at two places of a trie: here, since a ghost member cites it. Assumes nothing.
 use Rattle.std.specs.Prelude.{◌≡◌, ℕ, zero, suc, ◌-◌, ◌<◌, ◌≤◌, Bool, true, false, List, [], ◌∷◌, map, length, Some, slice_index_or}
 use Rattle.std.proofs.Common.{sym, ap, subst, ◌∙◌, arith}
+use Rattle.std.proofs.Math.Logic.{∥∥₁_elim}
+use Rattle.std.proofs.Math.Nat.{ℕ_set}
 use Rattle.std.specs.List.{slice_get}
 use Rattle.trie.specs.Bits.{bit}
 use Rattle.dictionary.specs.Facts.{held_long, nth_below, within_rows}
-use Rattle.trie.specs.Trie.{Under, at, go, Good, Goods, Node, bits_of, keys, child, crits, Linked, Rooted, InPlace}
+use Rattle.trie.specs.Trie.{Under, at, go, Good, Goods, Node, bits_of, keys, child, crits, Linked, Rooted, Sound}
 use Rattle.trie.specs.declared.patricia.Trie.{Trie}
 use Rattle.trie.specs.declared.row.TrieRow.{TrieRow}
 
@@ -34,15 +36,15 @@ pub goods : {K : Type 0} (rows : List (TrieRow K)) (n : ℕ) → Linked rows n �
 goods rows n links false = links.0
 goods rows n links true = links.1
 
-module _ {K : Type 0} (spelling : K → List ℕ) (rows : List (TrieRow K)) (n root : ℕ) (long : n ≤ length rows) (links : Linked rows n) (rooted : Rooted rows n root) (sound : InPlace rows spelling n root) where
+module _ {K : Type 0} (spelling : K → List ℕ) (rows : List (TrieRow K)) (n root : ℕ) (long : n ≤ length rows) (links : Linked rows n) (rooted : Rooted rows n root) (sound : Sound rows spelling n root) where
   pub one_place : (i j : ℕ) (k : K) → slice_get (keys rows n) i ≡ Some k → slice_get (keys rows n) j ≡ Some k → i ≡ j
   one_place i j k e e' =
       let below = held_below rows n long i k e in
-      one_leaf (crits rows) (child rows) (bits_of spelling (keys rows n)) n (goods rows n links) sound.nodes i root (sound.under i below) j (sound.under j (held_below rows n long j k e')) 0 (rooted (omega arith))
-      (λ t. ap (λ s. bit s t) (bits_at spelling (keys rows n) i k e ∙ sym (bits_at spelling (keys rows n) j k e')))
+      ∥∥₁_elim sound (ℕ_set i j) (λ s. one_leaf (crits rows) (child rows) (bits_of spelling (keys rows n)) n (goods rows n links) s.nodes i root (s.under i below) j (s.under j (held_below rows n long j k e')) 0 (rooted (omega arith))
+      (λ t. ap (λ s. bit s t) (bits_at spelling (keys rows n) i k e ∙ sym (bits_at spelling (keys rows n) j k e'))))
 
 -- the same of a trie, by its ghost fields
-module _ {K : Type 0} (t : Trie K) where
+module _ {K : Type 0} {key : _} {ord : _} {eq : _} {cmp : _} (t : Trie K key ord eq cmp) where
   pub goods_in : (b : Bool) → Goods (crits t.rows.now) t.used (child t.rows.now b)
   goods_in b = goods t.rows.now t.used (t.lefts, t.rights) b
 

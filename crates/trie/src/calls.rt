@@ -6,7 +6,7 @@ ghost use Rattle.dictionary.specs.Meaning.{new, finding, naming, keying};
 ghost use Rattle.dictionary.specs.Rows.{beyond};
 ghost use Rattle.trie.specs.Trie.{link_number};
 ghost use Rattle.trie.specs.TrieFacts.{one_place};
-ghost use Rattle.trie.specs.TrieMeaning.{meaning_of, Sound};
+ghost use Rattle.trie.specs.TrieMeaning.{meaning_of};
 
 use crate::patricia::Trie;
 use crate::row::{Link, TrieRow};
@@ -21,7 +21,6 @@ impl<'a, K: Key> Trie<'a, K> {
     /// matter.
     pub fn new(rows: &'a mut [TrieRow<K>]) -> Trie<'a, K>
         ensures meaning { meaning_of result ≡ new (length rows.old) }
-        ensures sound { Sound K.Key.spelling result }
         ensures rows { result.rows.now ≡ rows.old }
         ensures lent { result.rows.ghost_name ≡ rows.entry.ghost_name }
     {
@@ -37,9 +36,9 @@ impl<'a, K: Key> Trie<'a, K> {
 impl<'a, K: Key> Dictionary<K> for Trie<'a, K> {
     ghost meaning = { meaning_of };
 
-    ghost sound = { Sound K.Key.spelling };
+    ghost sound = { λ _. Unit {0} };
 
-    ghost different = { λ t s. different_from (meaning_of t).keys (one_place K.Key.spelling t.rows.now t.used (link_number t.root) (within_rows t.long) (t.lefts, t.rights) t.rooted s) };
+    ghost different = { λ t s. different_from (meaning_of t).keys (one_place K.Key.spelling t.rows.now t.used (link_number t.root) (within_rows t.long) (t.lefts, t.rights) t.rooted t.sound) };
 
     ghost within = { λ t. held_within (λ w. w.key) t.rows.now t.used t.long };
 
@@ -60,7 +59,7 @@ impl<'a, K: Key> Dictionary<K> for Trie<'a, K> {
     }
 
     fn find(&mut self, k: &K) -> Option<u32>
-        ensures does { Does meaning_of (Sound K.Key.spelling) self.old self.new result (finding K.Key.order k.now) }
+        ensures does { Does meaning_of (λ _. Unit {0}) self.old self.new result (finding K.Key.order k.now) }
         ensures rows { self.new.rows.now ≡ self.old.rows.now }
         ensures lent { self.new.rows.ghost_name ≡ self.old.rows.ghost_name }
     {
@@ -69,7 +68,7 @@ impl<'a, K: Key> Dictionary<K> for Trie<'a, K> {
     }
 
     fn name(&mut self, k: &K) -> Result<u32, Full>
-        ensures does { Does meaning_of (Sound K.Key.spelling) self.old self.new result (naming K.Key.order k.now) }
+        ensures does { Does meaning_of (λ _. Unit {0}) self.old self.new result (naming K.Key.order k.now) }
         ensures beyond { beyond self.new.rows.now ≡ beyond self.old.rows.now }
         ensures lent { self.new.rows.ghost_name ≡ self.old.rows.ghost_name }
     {
@@ -81,7 +80,7 @@ impl<'a, K: Key> Dictionary<K> for Trie<'a, K> {
     }
 
     fn key(&mut self, n: u32) -> Result<K, Absent>
-        ensures does { Does meaning_of (Sound K.Key.spelling) self.old self.new result (keying n) }
+        ensures does { Does meaning_of (λ _. Unit {0}) self.old self.new result (keying n) }
         ensures rows { self.new.rows.now ≡ self.old.rows.now }
         ensures lent { self.new.rows.ghost_name ≡ self.old.rows.ghost_name }
     {

@@ -1,92 +1,65 @@
 // One key more in a trie.
-ghost use Rattle.std.specs.Prelude.{◌≡◌, ◌+◌, ◌<◌, length, Ok, Err, Some};
+ghost use Rattle.std.specs.Prelude.{◌≡◌, ◌+◌, ◌<◌, [], ◌∷◌, ◌++◌, length, drop};
+ghost use Rattle.dictionary.specs.Meaning.{most};
 ghost use Rattle.trie.specs.Bits.{bit, number};
-ghost use Rattle.dictionary.specs.Does.{Does};
-ghost use Rattle.dictionary.specs.Meaning.{append, most};
-ghost use Rattle.dictionary.specs.Rows.{beyond};
-ghost use Rattle.trie.specs.Trie.{Hooked, Meets, PartsFrom, child, crits, link_number};
-ghost use Rattle.trie.specs.TrieMeaning.{Forks, meaning_of, Sound};
+ghost use Rattle.trie.specs.Trie.{Hooked, Linked, PartsFrom, Rooted, Sound, child, crits, keys, link_number};
+ghost use Rattle.trie.specs.TrieMeaning.{Forks};
 
 use crate::bits::bit_at;
-use crate::patricia::Trie;
 use crate::place::Place;
 use crate::row::{Hook, Link, TrieRow};
 use dictionary::key::Key;
-use dictionary::refusals::Full;
-use dictionary::rows::{Slot, capacity_over};
+use dictionary::rows::Slot;
 
-impl<'a, K: Key> Trie<'a, K> {
-    /// A row for the next key: its leaf, and an inner node that tests the place, with the leaf on the key's own side and
-    /// the hook's link on the other.
-    fn fork(&self, k: &K, place: Place, hook: Hook) -> TrieRow<K>
-        ensures { Forks K.Key.spelling self.now k.now place hook result }
-    {
-        let key = *k;
-        let leaf = Link::Leaf(self.used as u32);
-        let (left, right) = if bit_at(k, place) {
-            (hook.link, leaf)
-        } else {
-            (leaf, hook.link)
-        };
-        TrieRow {
-            key,
-            place,
-            left,
-            right,
-        }
+/// A row for the next key: its leaf, and an inner node that tests the place, with the leaf on the key's own side and the
+/// hook's link on the other.
+fn fork<K: Key>(next: u32, k: &K, place: Place, hook: Hook) -> TrieRow<K>
+    ensures { Forks K.Key.spelling next k.now place hook result }
+{
+    let key = *k;
+    let leaf = Link::Leaf(next);
+    let (left, right) = if bit_at(k, place) {
+        (hook.link, leaf)
+    } else {
+        (leaf, hook.link)
+    };
+    TrieRow {
+        key,
+        place,
+        left,
+        right,
     }
+}
 
-    /// Hangs a row for the key, which first differs at the place from the keys that it meets.
-    fn graft(&mut self, k: &K, place: Place, hook: Hook)
-        requires room { self.old.used < most (length self.old.rows.now) }
-        requires parts { PartsFrom self.old.rows.now K.Key.spelling self.old.used (link_number self.old.root) k.now (number place) }
-        requires hooked { Hooked (child self.old.rows.now) (crits self.old.rows.now) self.old.used (link_number self.old.root) (bit (K.Key.spelling k.now)) (number place) (Some hook) }
-        ensures does { Does meaning_of (Sound K.Key.spelling) self.old self.new (Ok (self.old.used + 1)) (append k.now) }
-        ensures beyond { beyond self.new.rows.now ≡ beyond self.old.rows.now }
-        ensures lent { self.new.rows.ghost_name ≡ self.old.rows.ghost_name }
-    {
-        let node = Link::Inner(self.used as u32);
-        self.rows[self.used] = self.fork(k, place, hook);
-        self.used += 1;
-        match hook.slot {
-            Slot::Root => self.root = node,
-            Slot::Left(p) => self.rows[p as usize].left = node,
-            Slot::Right(p) => self.rows[p as usize].right = node,
-        }
+// A function of the rows and no method: on a trie each write has to keep its ghost fields, and a link to the new row leads outside them until the count grows.
+/// Hangs a row for the key, which first differs at the place from the keys that it meets. The link to the root afterwards.
+pub(crate) fn graft<K: Key>(
+    rows: &mut [TrieRow<K>],
+    used: usize,
+    root: Link,
+    k: &K,
+    place: Place,
+    hook: Hook,
+) -> Link
+    requires room { used < most (length rows.old) }
+    requires linked { Linked rows.old used }
+    requires rooted { Rooted rows.old used (link_number root) }
+    requires sound { Sound rows.old K.Key.spelling used (link_number root) }
+    requires parts { PartsFrom rows.old K.Key.spelling used (link_number root) k.now (number place) }
+    requires hooked { Hooked (child rows.old) (crits rows.old) used (link_number root) (bit (K.Key.spelling k.now)) (number place) hook }
+    ensures linked { Linked rows.new (used + 1) }
+    ensures rooted { Rooted rows.new (used + 1) (link_number result) }
+    ensures held { keys rows.new (used + 1) ≡ keys rows.old used ++ k.now ∷ [] }
+    ensures sound { Sound rows.new K.Key.spelling (used + 1) (link_number result) }
+    ensures rest { drop (used + 1) rows.new ≡ drop (used + 1) rows.old }
+{
+    let next = used as u32;
+    rows[used] = fork(next, k, place, hook);
+    let node = Link::Inner(next);
+    match hook.slot {
+        Slot::Root => return node,
+        Slot::Left(p) => rows[p as usize].left = node,
+        Slot::Right(p) => rows[p as usize].right = node,
     }
-
-    /// Puts the first key into the first row.
-    fn plant(&mut self, k: &K)
-        requires room { 0 < most (length self.old.rows.now) }
-        requires empty { self.old.used ≡ 0 }
-        ensures does { Does meaning_of (Sound K.Key.spelling) self.old self.new (Ok (self.old.used + 1)) (append k.now) }
-        ensures beyond { beyond self.new.rows.now ≡ beyond self.old.rows.now }
-        ensures lent { self.new.rows.ghost_name ≡ self.old.rows.ghost_name }
-    {
-        self.rows[0] = TrieRow::blank(*k);
-        self.used = 1;
-        self.root = Link::Leaf(0);
-    }
-
-    /// Appends a key that isn't there, if there is room: at the place where it first differs from the key that its walk met,
-    /// or as the first.
-    pub(crate) fn insert(&mut self, k: &K, place: Option<Place>) -> Result<u32, Full>
-        requires { Meets self.old.rows.now K.Key.spelling self.old.used (link_number self.old.root) k.now (Err place) }
-        ensures does { Does meaning_of (Sound K.Key.spelling) self.old self.new result (append k.now) }
-        ensures beyond { beyond self.new.rows.now ≡ beyond self.old.rows.now }
-        ensures lent { self.new.rows.ghost_name ≡ self.old.rows.ghost_name }
-    {
-        let size = self.used as u32;
-        if self.used >= capacity_over(self.rows.len()) {
-            return Err(Full { size });
-        }
-        let Some(place) = place else {
-            self.plant(k);
-            return Ok(1);
-        };
-        // A sound trie has no inner node on the way that tests the place itself: the promise shows that this is not met.
-        let hook = self.hook(k, place).ok_or(Full { size })?;
-        self.graft(k, place, hook);
-        Ok(size + 1)
-    }
+    root
 }

@@ -8,6 +8,7 @@ mod bits;
 pub mod calls;
 mod graft;
 mod hook;
+mod insert;
 mod look_up;
 pub mod patricia;
 pub mod place;

@@ -1,16 +1,17 @@
 // The trie.
 ghost use Rattle.std.specs.Prelude.{◌^◌, ◌<◌, ◌≤◌, true, false, length};
 ghost use Rattle.dictionary.specs.Meaning.{most};
-ghost use Rattle.trie.specs.Trie.{Goods, Rooted, child, crits, link_number};
+ghost use Rattle.trie.specs.Trie.{Goods, Rooted, Sound, child, crits, link_number};
 
 use crate::row::{Link, TrieRow};
+use dictionary::key::Key;
 
-/// A dictionary over lent rows, one key a row, that uses only the spelling of its keys. What needs no spelling is a ghost
-/// field, so that a walk stays within the rows and ends, whatever they held before.
+/// A dictionary over lent rows, one key a row, that uses only the spelling of its keys. Its
+/// soundness is ghost fields, so that a walk stays within the rows and ends, whatever they held before, and finds each key.
 // The rows are the caller's memory, and nothing here takes any: so there is a count of rows beside them, and links are row
 // numbers and no boxes.
 #[derive(Drop)]
-pub struct Trie<'a, K> {
+pub struct Trie<'a, K: Key> {
     pub(crate) rows: &'a mut [TrieRow<K>],
     pub(crate) used: usize,
     pub(crate) root: Link,
@@ -20,4 +21,5 @@ pub struct Trie<'a, K> {
     ghost lefts: { Goods (crits rows.now) used (child rows.now false) },
     ghost rights: { Goods (crits rows.now) used (child rows.now true) },
     ghost rooted: { Rooted rows.now used (link_number root) },
+    ghost sound: { Sound rows.now K.Key.spelling used (link_number root) },
 }
