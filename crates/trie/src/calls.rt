@@ -36,9 +36,7 @@ impl<'a, K: Key> Trie<'a, K> {
 impl<'a, K: Key> Dictionary<K> for Trie<'a, K> {
     ghost meaning = { meaning_of };
 
-    ghost sound = { λ _. Unit {0} };
-
-    ghost different = { λ t s. different_from (meaning_of t).keys (one_place K.Key.spelling t.rows.now t.used (link_number t.root) (within_rows t.long) (t.lefts, t.rights) t.rooted t.sound) };
+    ghost different = { λ t. different_from (meaning_of t).keys (one_place K.Key.spelling t.rows.now t.used (link_number t.root) (within_rows t.long) (t.lefts, t.rights) t.rooted t.sound) };
 
     ghost within = { λ t. held_within (λ w. w.key) t.rows.now t.used t.long };
 
@@ -59,7 +57,7 @@ impl<'a, K: Key> Dictionary<K> for Trie<'a, K> {
     }
 
     fn find(&mut self, k: &K) -> Option<u32>
-        ensures does { Does meaning_of (λ _. Unit {0}) self.old self.new result (finding K.Key.order k.now) }
+        ensures does { Does meaning_of self.old self.new result (finding K.Key.order k.now) }
         ensures rows { self.new.rows.now ≡ self.old.rows.now }
         ensures lent { self.new.rows.ghost_name ≡ self.old.rows.ghost_name }
     {
@@ -68,7 +66,7 @@ impl<'a, K: Key> Dictionary<K> for Trie<'a, K> {
     }
 
     fn name(&mut self, k: &K) -> Result<u32, Full>
-        ensures does { Does meaning_of (λ _. Unit {0}) self.old self.new result (naming K.Key.order k.now) }
+        ensures does { Does meaning_of self.old self.new result (naming K.Key.order k.now) }
         ensures beyond { beyond self.new.rows.now ≡ beyond self.old.rows.now }
         ensures lent { self.new.rows.ghost_name ≡ self.old.rows.ghost_name }
     {
@@ -80,7 +78,7 @@ impl<'a, K: Key> Dictionary<K> for Trie<'a, K> {
     }
 
     fn key(&mut self, n: u32) -> Result<K, Absent>
-        ensures does { Does meaning_of (λ _. Unit {0}) self.old self.new result (keying n) }
+        ensures does { Does meaning_of self.old self.new result (keying n) }
         ensures rows { self.new.rows.now ≡ self.old.rows.now }
         ensures lent { self.new.rows.ghost_name ≡ self.old.rows.ghost_name }
     {

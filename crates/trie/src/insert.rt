@@ -19,7 +19,7 @@ impl<'a, K: Key> Trie<'a, K> {
     /// or as the first.
     pub(crate) fn insert(&mut self, k: &K, place: Option<Place>) -> Result<u32, Full>
         requires { Meets self.old.rows.now K.Key.spelling self.old.used (link_number self.old.root) k.now (Err place) }
-        ensures does { Does meaning_of (λ _. Unit {0}) self.old self.new result (append k.now) }
+        ensures does { Does meaning_of self.old self.new result (append k.now) }
         ensures beyond { beyond self.new.rows.now ≡ beyond self.old.rows.now }
         ensures lent { self.new.rows.ghost_name ≡ self.old.rows.ghost_name }
     {
