@@ -53,37 +53,57 @@ module _ (child : Bool → ℕ → ℕ) (crit : ℕ → ℕ) (n root : ℕ) (x :
       pub way_right : (slot : Slot) → SlotAt child crit n root x d slot here → Way child crit n root slot → Way child crit n root (Right m)
       way_right slot s way child' root' new i turned u = on_way child' root' new true turned slot s way i u
 
--- the same at a trie: w is the row that was read
 module _ {K : Type 0} {key : _} {ord : _} {eq : _} {cmp : _} (t : Trie K key ord eq cmp) (x : ℕ → Bool) (d : ℕ) where
+  abbrev pub Hooks : Slot → ℕ → Type 0
+  Hooks = Hooking (child t.rows.now) (crits t.rows.now) t.used (link_number t.root) x d
+
+-- the same at a trie, on the way of a key that first differs at the bit d from the one that it meets
+module _ {K : Type 0} {key : Ghosts K} {ord : _} {eq : _} {cmp : _} (t : Trie K key ord eq cmp) (k : K) (d : ℕ) (parts : PartsFrom t.rows.now key.spelling t.used (link_number t.root) k d) where
   abbrev rows : List (TrieRow K)
   rows = t.rows.now
 
-  abbrev pub Hooks : Slot → ℕ → Type 0
-  Hooks = Hooking (child rows) (crits rows) t.used (link_number t.root) x d
+  abbrev x : ℕ → Bool
+  x = bit (key.spelling k)
+
+  abbrev Here : Slot → ℕ → Type 0
+  Here = Hooks t x d
 
   abbrev Found : Hook → Type 0
   Found = Hooked (child rows) (crits rows) t.used (link_number t.root) x d
 
-  pub hook_leaf : (slot : Slot) (l : Link) (i : ℕ) → l ≡ Leaf i → i < 4294967296 → Hooks slot (link_number l) → Found (record { slot = slot; link = Leaf i })
+  pub hook_leaf : (slot : Slot) (l : Link) (i : ℕ) → l ≡ Leaf i → i < 4294967296 → Here slot (link_number l) → Found (record { slot = slot; link = Leaf i })
   hook_leaf slot l i e leaf h = let is = ap link_number e in subst (λ q. Found (record { slot = slot; link = q })) e ((h.good.0, h.good.1, h.good.2, λ q. absurd (omega arith)), h.at, h.way, h.passes)
 
-  module _ (slot : Slot) (l : Link) (i : ℕ) (w : TrieRow K) (e : l ≡ Inner i) (is : w ≡ get_or rows i w) (h : Hooks slot (link_number l)) where
+  -- the row w was read at an inner node
+  module _ (slot : Slot) (l : Link) (i : ℕ) (w : TrieRow K) (e : l ≡ Inner i) (is : w ≡ get_or rows i w) (h : Here slot (link_number l)) where
     abbrev here : ℕ
     here = link_number l
 
     crit : crits rows (here - 4294967296) ≡ number w.place
     crit = crit_is t x here i w (ap link_number e) is h.good
 
+    inside : 4294967296 ≤ here
+    inside = inner t x here i w (ap link_number e) is h.good
+
     pub hook_there : d < number w.place → Found (record { slot = slot; link = Inner i })
     hook_there later = subst (λ q. Found (record { slot = slot; link = q })) e ((h.good.0, h.good.1, h.good.2, λ q. let c = crit in omega arith), h.at, h.way, h.passes)
 
-    side_at : (b : Bool) → number w.place < d → x (number w.place) ≡ b → SideAt (child rows) (crits rows) t.used (link_number t.root) x d b (here - 4294967296) (side b w)
+    -- it does not test d itself: the key that is met agrees there with the walk
+    apart : number w.place ≡ d → ⊥
+    apart same =
+        let tests : crits rows (here - 4294967296) ≡ d = crit ∙ same in
+        let bits = bits_of key.spelling (keys rows t.used) in
+        ∥∥₁_elim t.sound ⊥_prop (λ s.
+        let met = same_bit (child rows) (crits rows) bits t.used (goods_in t) s.nodes x parts.0 here 0 h.good inside (h.passes parts.0 parts.2) in
+        parts.3.0 (ap x (sym tests) ∙ sym met ∙ ap (bits parts.0) tests))
+
+    side_at : (b : Bool) → number w.place ≤ d → x (number w.place) ≡ b → SideAt (child rows) (crits rows) t.used (link_number t.root) x d b (here - 4294967296) (side b w)
     side_at b early e₁ =
         let q = node t x here i w (ap link_number e) is h.good in
         let c = crit in
-        (q.0, q.1, side_is t x here i w (ap link_number e) is h.good b, omega arith, ap x crit ∙ e₁)
+        (q.0, q.1, side_is t x here i w (ap link_number e) is h.good b, omega (arith, apart), ap x crit ∙ e₁)
 
-    on : (b : Bool) (slot' : Slot) → x (number w.place) ≡ b → SlotAt (child rows) (crits rows) t.used (link_number t.root) x d slot' (side b w) → Way (child rows) (crits rows) t.used (link_number t.root) slot' → Hooks slot' (side b w)
+    on : (b : Bool) (slot' : Slot) → x (number w.place) ≡ b → SlotAt (child rows) (crits rows) t.used (link_number t.root) x d slot' (side b w) → Way (child rows) (crits rows) t.used (link_number t.root) slot' → Here slot' (side b w)
     on b slot' e₁ at way = record {
       good = good_on t x here i w (ap link_number e) is h.good b;
       at = at;
@@ -91,24 +111,8 @@ module _ {K : Type 0} {key : _} {ord : _} {eq : _} {cmp : _} (t : Trie K key ord
       passes = λ j r. step_on t x here i w (ap link_number e) is h.good b e₁ j (h.passes j r);
     }
 
-    pub hook_left : number w.place < d → x (number w.place) ≡ false → Hooks (Left i) (side false w)
-    hook_left early e₁ = subst (λ q. Hooks (Left q) (side false w)) (m_is t x here i w (ap link_number e) is h.good) (on false _ e₁ (side_at false early e₁) (way_left (child rows) (crits rows) t.used (link_number t.root) x d (goods_in t) here (inner t x here i w (ap link_number e) is h.good) slot h.at h.way))
+    pub hook_left : number w.place ≤ d → x (number w.place) ≡ false → Here (Left i) (side false w)
+    hook_left early e₁ = subst (λ q. Here (Left q) (side false w)) (m_is t x here i w (ap link_number e) is h.good) (on false _ e₁ (side_at false early e₁) (way_left (child rows) (crits rows) t.used (link_number t.root) x d (goods_in t) here inside slot h.at h.way))
 
-    pub hook_right : number w.place < d → x (number w.place) ≡ true → Hooks (Right i) (side true w)
-    hook_right early e₁ = subst (λ q. Hooks (Right q) (side true w)) (m_is t x here i w (ap link_number e) is h.good) (on true _ e₁ (side_at true early e₁) (way_right (child rows) (crits rows) t.used (link_number t.root) x d (goods_in t) here (inner t x here i w (ap link_number e) is h.good) slot h.at h.way))
-
--- where the key first differs from the one that it meets at d, no inner node on the way tests d itself
-module _ {K : Type 0} {key : Ghosts K} {ord : _} {eq : _} {cmp : _} (t : Trie K key ord eq cmp) (k : K) (d : ℕ) (parts : PartsFrom t.rows.now key.spelling t.used (link_number t.root) k d) where
-  abbrev bits : ℕ → Bool
-  bits = bit (key.spelling k)
-
-  pub hook_early : (slot : Slot) (l : Link) (i : ℕ) (w : TrieRow K) → l ≡ Inner i → w ≡ get_or t.rows.now i w → Hooks t bits d slot (link_number l) → number w.place ≤ d → number w.place < d
-  hook_early slot l i w e is h low =
-      let here = link_number l in
-      let apart : number w.place ≡ d → ⊥ = λ same.
-      let tests : crits t.rows.now (here - 4294967296) ≡ d = crit_is t bits here i w (ap link_number e) is h.good ∙ same in
-      ∥∥₁_elim t.sound ⊥_prop (λ s.
-      let b = same_bit (child t.rows.now) (crits t.rows.now) (bits_of key.spelling (keys t.rows.now t.used)) t.used (goods_in t) s.nodes bits parts.0 here 0 h.good (inner t bits here i w (ap link_number e) is h.good) (h.passes parts.0 parts.2) in
-      parts.3.0 (ap bits (sym tests) ∙ sym b ∙ ap (bits_of key.spelling (keys t.rows.now t.used) parts.0) tests))
-      in
-      omega (arith, apart)
+    pub hook_right : number w.place ≤ d → x (number w.place) ≡ true → Here (Right i) (side true w)
+    hook_right early e₁ = subst (λ q. Here (Right q) (side true w)) (m_is t x here i w (ap link_number e) is h.good) (on true _ e₁ (side_at true early e₁) (way_right (child rows) (crits rows) t.used (link_number t.root) x d (goods_in t) here inside slot h.at h.way))

@@ -6,6 +6,7 @@
 --     Good      a link to a leaf, or to an inner node that tests a late enough bit
 --     Node      what an inner node says of the leaves under it
 --     Sorted    all nodes do, and each leaf lies under the root
+--     Sound     the same of rows, as the fact that a ghost field holds
 use Rattle.std.specs.Prelude.{◌≡◌, ℕ, ◌+◌, ◌-◌, ◌<◌, ◌≤◌, Bool, true, false, List, [], map, Some, None, Ok, Err, Option, Result, slice_index_or}
 use Rattle.std.specs.List.{slice_get}
 use Rattle.trie.specs.Bits.{bit, number, PartAt}
@@ -113,7 +114,7 @@ module _ {K : Type 0} (rows : List (TrieRow K)) where
   abbrev pub InPlace : (K → List ℕ) → ℕ → ℕ → Type 0
   InPlace spelling n root = Sorted child crits (bits_of spelling (keys n)) n root
 
-  -- what a trie is, as a fact that a ghost field holds
+  -- truncated, since antt finds no proof that a leaf lies under the root in one way only
   abbrev pub Sound : (K → List ℕ) → ℕ → ℕ → Type 0
   Sound spelling n root = ∥ InPlace spelling n root ∥₁
 

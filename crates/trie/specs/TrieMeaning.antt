@@ -8,7 +8,7 @@ use Rattle.trie.specs.declared.place.Place.{Place}
 use Rattle.trie.specs.declared.row.Hook.{Hook}
 use Rattle.trie.specs.declared.row.TrieRow.{TrieRow}
 
--- a trie's type names what its keys' bounds say of them
+-- what the bounds of K say of it belongs to the type of a trie
 abbrev pub meaning_of : {K : Type 0} {key : _} {ord : _} {eq : _} {cmp : _} → Trie K key ord eq cmp → Meaning K
 meaning_of t = meaning (keys t.rows.now t.used) (most (length t.rows.now)) t.asks
 

@@ -6,8 +6,8 @@ ghost use Rattle.trie.specs.Trie.{Goods, Rooted, Sound, child, crits, link_numbe
 use crate::row::{Link, TrieRow};
 use dictionary::key::Key;
 
-/// A dictionary over lent rows, one key a row, that uses only the spelling of its keys. Its
-/// soundness is ghost fields, so that a walk stays within the rows and ends, whatever they held before, and finds each key.
+/// A dictionary over lent rows, one key a row, that uses only the spelling of its keys. That it is sound is ghost fields: a
+/// walk stays within the rows, ends, and ends at its key if that is there, whatever the rows held before.
 // The rows are the caller's memory, and nothing here takes any: so there is a count of rows beside them, and links are row
 // numbers and no boxes.
 #[derive(Drop)]
