@@ -33,6 +33,7 @@ impl<'a, K: Key> Trie<'a, K> {
     }
 }
 
+// The clauses `rows`, `beyond` and `lent` compare the rows before and after a call, which no ghost field can.
 impl<'a, K: Key> Dictionary<K> for Trie<'a, K> {
     ghost meaning = { meaning_of };
 
