@@ -1,9 +1,9 @@
 -- Lists of dictionary calls: the calls that are left give the rest of the answers. Assumes nothing.
-use Rattle.std.proofs.Common.{◌≡◌, ℕ, zero, suc, ◌+◌, ◌<◌, ◌≤◌, true, false, cond, ltb, List, [], ◌∷◌, ◌++◌, length, take, drop, set, Some, None, Ok, Err, Result, Ordering, sym, refl, ap, ◌∙◌, subst, arith}
+use Rattle.std.proofs.Common.{◌≡◌, ℕ, zero, suc, ◌+◌, ◌<◌, ◌≤◌, true, false, cond, ltb, List, [], ◌∷◌, ◌++◌, length, take, drop, set, Some, None, Ok, Err, Result, Ordering, sym, ap, ◌∙◌, subst, arith}
 use Rattle.std.specs.List.{slice_get}
 use Rattle.std.proofs.lemmas.List.{append-nil, append_assoc, take-append-drop, length-take-le, drop_all, drop-set-lt, drop-drop, take_more_set}
 use Rattle.dictionary.specs.Does.{Out, out, Did}
-use Rattle.dictionary.specs.Histories.{calling, answers, after, Ran, Keeps, Alike}
+use Rattle.dictionary.specs.Histories.{calling, answers, after, Ran, Keeps}
 use Rattle.dictionary.specs.Meaning.{Meaning, meaning, full, key_of, number_of, name_at, asked, naming}
 use Rattle.dictionary.specs.declared.refusals.Full.{Full}
 use Rattle.dictionary.specs.declared.calls.Answer.{Answer}
@@ -17,9 +17,6 @@ module _ {K : Type 0} (order : K → K → Ordering) where
       pub left : after order m (drop i cs) ≡ after order m₀ cs
       pub answered : take i now ++ answers order m (drop i cs) ≡ answers order m₀ cs
       pub rest : drop i now ≡ drop i room
-
-    pub going_start : Going m₀ room 0
-    going_start = record { left = refl; answered = refl; rest = refl }
 
     module _ (m : Meaning K) (now : List (Answer K)) (i : ℕ) (g : Going m now i) where
       pub ran : length cs ≤ i → i ≤ length now → Ran order m₀ cs room now m
@@ -76,10 +73,3 @@ module _ {K : Type 0} (order : K → K → Ordering) where
 
   pub ran_keeps : (m : Meaning K) (cs : List (Call K)) (room room' : List (Answer K)) (m' : Meaning K) → Ran order m cs room room' m' → Keeps m m'
   ran_keeps m cs room room' m' ran = subst (Keeps m) (sym ran.left) (run_keeps m cs)
-
-  -- two runs of one list of calls, from one meaning
-  pub ran_alike : (cs : List (Call K)) (m m₁ : Meaning K) (a a' b b' : List (Answer K)) (m' m₁' : Meaning K) → m ≡ m₁ → a ≡ b → Ran order m (take (length a) cs) a a' m' → Ran order m₁ (take (length b) cs) b b' m₁' → Alike a' b' m' m₁'
-  ran_alike cs m m₁ a a' b b' m' m₁' same room p q = (
-    p.answered ∙ (λ i. answers order (same i) (take (length (room i)) cs) ++ drop (length (answers order (same i) (take (length (room i)) cs))) (room i)) ∙ sym q.answered,
-    p.left ∙ (λ i. after order (same i) (take (length (room i)) cs)) ∙ sym q.left,
-  )

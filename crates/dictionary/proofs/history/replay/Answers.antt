@@ -1,10 +1,7 @@
 use Rattle.std.proofs.Common.{◌≡◌, ◌+◌, ◌≤◌, ◌<◌, ◌∷◌, length, get_or, take, drop, sym, ap, ◌∙◌, arith}
 use Rattle.std.proofs.lemmas.List.{length-take, drop_more, get_or-take, set-get_or}
-use Rattle.dictionary.proofs.Runs.{going_on, going_start, ran, ran_keeps}
+use Rattle.dictionary.proofs.Runs.{going_on, ran, ran_keeps}
 use Rattle.dictionary.proofs.history.replay.Goals as goal
-
-pub loop-i-init : goal.loop-i-init
-loop-i-init g c = going_start g.K.Key.order _ _ _
 
 pub loop-i-preserved : goal.loop-i-preserved
 loop-i-preserved g c =

@@ -1,12 +1,6 @@
 use Rattle.std.proofs.Common.{◌≤◌, arith}
-use Rattle.scheme.specs.Spellings.{byte_number, byte_past, byte_at}
+use Rattle.scheme.specs.Spellings.{byte_number, byte_past}
 use Rattle.scheme.proofs.composition_key.CompositionKey.byte.Goals as goal
-
-pub returns-then-i-eq0 : goal.returns-then-i-eq0
-returns-then-i-eq0 c = byte_at c.args.self.now c.args.i 0 c.if-i-eq0.true
-
-pub returns-then-i-eq1 : goal.returns-then-i-eq1
-returns-then-i-eq1 c = byte_at c.args.self.now c.args.i 1 c.if-i-eq1.true
 
 pub returns-then-i-lt30 : goal.returns-then-i-lt30
 returns-then-i-lt30 c =
