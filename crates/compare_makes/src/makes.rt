@@ -31,6 +31,7 @@ fn counts_of<K: Key, D: Dictionary<K>>(dictionary: &D) -> Counts
     }
 }
 
+// Rows and answers are the caller's memory, of two types and for two makes: four slices.
 /// Begins both makes over the rows and carries out the calls on each. Begun at one capacity, they answer every list of
 /// calls alike, with equal sizes and asks afterwards.
 pub fn compare<'a, K: Key>(

@@ -11,6 +11,7 @@ use crate::place::Place;
 #[derive(Drop, Debug, Clone, Copy, PartialEq, Eq)]
 pub struct NoRoom;
 
+// By the place and no `zip`: of what is written through a zipped `iter_mut` nothing is known after the loop.
 /// The first recolouring, of the names themselves.
 pub(crate) fn colour_names(names: &[u32], colours: &mut [u8])
     requires { length names.now ≡ length colours.old }

@@ -38,6 +38,7 @@ fn block_end(marks: &[u8], start: usize, n: usize) -> usize
     }
 }
 
+// The row and its marks are the caller's memory: two slices.
 /// The block of `row` that begins at `start`, where `marks` say that the blocks begin; nothing if `start` is past the row. A row is walked from place 0 on,
 /// each block from the end of the one before.
 pub fn next_block<'a>(row: &'a [u32], marks: &[u8], start: usize) -> Option<Block<'a>>

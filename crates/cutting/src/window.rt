@@ -10,7 +10,7 @@ mod passes;
 /// block boundaries, at most 13 names from the middle on either side, with 8 more names of context. The middle of a round is made of the names of the round
 /// below, two names or more to a block, and of one more on either side: with at most 30 names there are at most (13 + 30 + 13) / 2 + 2 = 30 above them. So a
 /// window has at most 8 + 13 + 30 + 13 + 8 = 72 names.
-// An array and a length: nothing is allocated.
+// An array by value and its length: so a window is handed on, and its old colours are read while new ones are made.
 #[derive(Drop, Clone, Copy)]
 pub struct Window {
     names: [u32; 96],
@@ -36,6 +36,7 @@ impl Window {
         })
     }
 
+    // Bytes and no bools, as for a row: one walk serves both.
     /// A 1 at each place where a block begins, and a 0 elsewhere. What it says of a row is to be believed from place 8 on, or from the beginning if the row
     /// begins with the window, and where 4 more names follow in the window, or to its end if the row ends with it.
     pub fn block_starts(&self) -> [u8; 96]

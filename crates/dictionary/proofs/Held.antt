@@ -3,7 +3,6 @@ use Rattle.std.proofs.Common.{◌≡◌, ℕ, zero, suc, ◌+◌, ◌-◌, ◌<�
 use lib.Seq.{map-set_same}
 use Rattle.std.specs.List.{slice_get}
 use Rattle.std.proofs.lemmas.List.{get_or-map, get_or-take, get_or-set_same, get_or-set_other, get_or_append_left, get_or_push, length-map, length-take-le, map_push, map-set, take-map, take_more_set, drop-drop}
-use Rattle.std.proofs.lemmas.Option.{slice_get-get_or}
 use Rattle.dictionary.specs.Facts.{held_long}
 use Rattle.dictionary.specs.Rows.{held, column}
 
@@ -25,10 +24,7 @@ module _ {R K : Type 0} (key : R → K) where
     taken : get_or (held key rows n) i (key w) ≡ key w
     taken = get_or-map key (take n rows) i w (key w) (omega (arith, length-take-le n rows long)) ∙ ap key (get_or-take n rows i w h ∙ sym is)
 
-    -- row i is w: the key of place i
-    pub held_nth : slice_get (held key rows n) i ≡ Some (key w)
-    held_nth = slice_get-get_or (held key rows n) i (key w) (omega (arith, held_long key rows n long)) ∙ ap Some taken
-
+    -- row i is w: what the key of place i has
     pub held_of : {Y : Type 0} (f : K → Y) (d : Y) → get_or (map f (held key rows n)) i d ≡ f (key w)
     held_of f d = get_or-map f (held key rows n) i (key w) d (omega (arith, held_long key rows n long)) ∙ ap f taken
 

@@ -1,12 +1,10 @@
 -- The number of a key in a list, and what `name` is to answer and leave. Assumes nothing.
-use Rattle.std.proofs.Common.{◌≡◌, ℕ, zero, suc, ◌+◌, ◌-◌, ◌<◌, ◌≤◌, false, ltb, ◌⊎◌, List, [], ◌∷◌, ◌++◌, length, Some, None, Ok, Err, Option, Result, Ordering, Less, Equal, Greater, sym, refl, ap, ◌∙◌, subst, ⊎_elim, arith}
+use Rattle.std.proofs.Common.{◌≡◌, ℕ, zero, suc, ◌+◌, ◌-◌, ◌<◌, ◌≤◌, false, ltb, List, [], ◌∷◌, ◌++◌, length, Some, None, Ok, Err, Option, Result, Ordering, Less, Equal, Greater, sym, refl, ap, ◌∙◌, subst, arith}
 use Rattle.std.specs.List.{slice_get}
 use Rattle.std.specs.Ordering.{is_eq}
-use Rattle.std.proofs.lemmas.Option.{slice_get_past}
 use Rattle.std.proofs.lemmas.Bool.{cond-true, cond-false, lt-ltb, le-ltb}
 use Rattle.dictionary.specs.Does.{out, Did}
-use Rattle.dictionary.specs.Meaning.{Meaning, meaning, more, full, absent, or_absent, key_of, number_from, number_of, finding, append, name_at, naming}
-use Rattle.dictionary.specs.declared.refusals.Absent.{Absent}
+use Rattle.dictionary.specs.Meaning.{Meaning, meaning, more, full, or_absent, key_of, number_from, number_of, finding, append, name_at, naming}
 use Rattle.dictionary.specs.declared.refusals.Full.{Full}
 
 not_equal : (o : Ordering) → (o ≡ Equal → ⊥) → is_eq o ≡ false
@@ -73,7 +71,3 @@ module _ {K : Type 0} (k : K) (ks : List K) (cap a n : ℕ) (long : length ks �
 -- key n
 pub key_there : {K : Type 0} (ks : List K) (n : ℕ) (k : K) → 0 < n → slice_get ks (n - 1) ≡ Some k → Ok k ≡ or_absent (key_of ks n)
 key_there ks n k some e = sym (ap (λ m. or_absent (key_of ks m)) (let s : n ≡ suc (n - 1) = omega arith in s) ∙ ap or_absent e)
-
-pub key_missing : {K : Type 0} (ks : List K) (n : ℕ) → (n ≡ 0) ⊎ (length ks < n) → ◌≡◌ {A = Result K Absent} (Err absent) (or_absent (key_of ks n))
-key_missing ks zero h = refl
-key_missing ks (suc i) h = sym (ap or_absent (slice_get_past ks i (⊎_elim (λ e. absurd (omega arith)) (λ q. omega arith) h)))

@@ -1,9 +1,6 @@
 -- The four bytes of a number. Assumes nothing.
-use Rattle.std.proofs.Common.{◌≡◌, ℕ, ◌/◌, ◌%◌, length, get_or, refl, ap, arith}
+use Rattle.std.proofs.Common.{◌≡◌, ℕ, ◌/◌, ◌%◌, get_or, ap, arith}
 use Rattle.dictionary.specs.Spelling.{four}
-
-pub four_long : (n : ℕ) → length (four n) ≡ 4
-four_long n = refl
 
 joined : (m n : ℕ) → m / 16777216 ≡ n / 16777216 → m / 65536 % 256 ≡ n / 65536 % 256 → m / 256 % 256 ≡ n / 256 % 256 → m % 256 ≡ n % 256 → m ≡ n
 joined m n a b c d = omega arith

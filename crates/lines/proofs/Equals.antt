@@ -1,15 +1,21 @@
 -- Equality of records, as it is derived.
-use Rattle.std.proofs.Common.{◌≡◌, Decides}
-use denote.Enum.Bare.{same_true, true_same}
+use Rattle.std.proofs.Common.{◌≡◌, ◌==◌, Decides}
+use denote.Enum.Bare.{sameb, same_true, true_same}
 use Rattle.std.specs.Bool.{one_answer}
 use Rattle.std.specs.Cmp.{unsigned_Decides}
 use Rattle.std.specs.Cmp.Lexicographic.{pointwise_decides}
+use Rattle.lines.specs.declared.kind.Kind.{Kind}
 use Rattle.lines.specs.declared.record.Record.{Record}
+use Rattle.lines.specs.Kinds.{letter_of}
 use Rattle.lines.specs.contracts.kind.Kind.{the_type}
 use Rattle.lines.specs.contracts.record.RecordPartialEq.TheImpl.{ghosts}
-use Rattle.lines.specs.Records.{same_decides, same_fields, same_fields_decides}
+use Rattle.lines.specs.Records.{letters_decide, same_decides, same_fields, same_fields_decides}
 
--- it answers true exactly for equal records
+-- that of kinds is that of their letters
+pub same_letters : (k l : Kind) → sameb the_type k l ≡ (letter_of k == letter_of l)
+same_letters k l = one_answer (sameb the_type k l) (letter_of k == letter_of l) (same_true the_type tt k l, true_same the_type k l) (letters_decide k l)
+
+-- that of records answers true exactly for equal records
 pub equal_decides : (x y : Record) → Decides (ghosts.eq x y) (x ≡ y)
 equal_decides x y =
     same_decides x y _ _ _ _

@@ -49,6 +49,7 @@ fn filled(bytes: &[u8]) -> [u8; 12]
     circuit
 }
 
+// No `then`: its closure has to know that the bytes are few, which the check does not find of it.
 /// The bytes as a circuit of twelve bytes, if they are one.
 fn circuit_of(bytes: &[u8]) -> Option<[u8; 12]>
     ensures { result ≡ option_map filled_up (circuit_of bytes.now) }

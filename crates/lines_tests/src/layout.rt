@@ -94,6 +94,7 @@ fn bad_lines(rt: HostRuntime) -> Result<(), Fail> {
     Ok(())
 }
 
+// By the place: it is what is damaged.
 /// Each byte of a lawful line, damaged in turn.
 #[test]
 fn damaged_lines(rt: HostRuntime) -> Result<(), Fail> {

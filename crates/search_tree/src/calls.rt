@@ -31,6 +31,7 @@ impl<'a, K: Key> SearchTree<'a, K> {
     }
 }
 
+// The tree's and the trie's methods are alike, each over its own struct, whose fields they read.
 // The clauses `rows`, `beyond` and `lent` compare the rows before and after a call, which no ghost field can.
 impl<'a, K: Key> Dictionary<K> for SearchTree<'a, K> {
     ghost meaning = { meaning_of };

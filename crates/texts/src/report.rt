@@ -73,6 +73,7 @@ fn counted(word: &str, n: usize) -> ReportLine
     line
 }
 
+// By the number, since that is how the report's form says it.
 /// The line that a refusal tells.
 fn line_told(fault: Fault) -> usize
     ensures { result ≡ line_told fault.number fault.place }

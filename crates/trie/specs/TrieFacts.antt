@@ -1,4 +1,4 @@
--- No key stands at two places of a trie: here, since a ghost member cites it. Assumes nothing.
+-- No key stands at two places of a trie: here, since a ghost member cites it; and what its lemmas take, of a trie. Assumes nothing.
 use Rattle.std.specs.Prelude.{◌≡◌, ℕ, zero, suc, ◌-◌, ◌<◌, ◌≤◌, Bool, true, false, List, [], ◌∷◌, map, length, Some, slice_index_or}
 use Rattle.std.proofs.Common.{sym, ap, subst, ◌∙◌, arith}
 use Rattle.std.proofs.Math.Logic.{∥∥₁_elim}

@@ -14,7 +14,7 @@ use dictionary::Dictionary;
 use dictionary::asks::one_more;
 use dictionary::key::Key;
 use dictionary::refusals::{Absent, Full};
-use dictionary::rows::capacity_over;
+use dictionary::rows::{capacity_over, key_in};
 
 impl<'a, K: Key> Trie<'a, K> {
     /// A trie with no keys and no asks. Its capacity is the number of rows, up to 16,777,216; what they hold does not
@@ -33,6 +33,7 @@ impl<'a, K: Key> Trie<'a, K> {
     }
 }
 
+// The tree's and the trie's methods are alike, each over its own struct, whose fields they read.
 // The clauses `rows`, `beyond` and `lent` compare the rows before and after a call, which no ghost field can.
 impl<'a, K: Key> Dictionary<K> for Trie<'a, K> {
     ghost meaning = { meaning_of };
@@ -84,6 +85,6 @@ impl<'a, K: Key> Dictionary<K> for Trie<'a, K> {
         ensures lent { self.new.rows.ghost_name ≡ self.old.rows.ghost_name }
     {
         self.asks = one_more(self.asks);
-        self.at(n)
+        key_in(self.held(), n)
     }
 }

@@ -1,18 +1,23 @@
-// The walk for a key, what it meets, and the key of a number.
-ghost use Rattle.std.specs.Prelude.{◌≡◌, ◌<◌};
-ghost use Rattle.dictionary.specs.Meaning.{key_of, or_absent};
+// The rows that hold keys, the walk for a key, and what it meets.
+ghost use Rattle.std.specs.Prelude.{◌≡◌, ◌<◌, take};
 ghost use Rattle.trie.specs.Bits.{bit};
-ghost use Rattle.trie.specs.Trie.{Ends, Meets, child, crits, keys, link_number};
+ghost use Rattle.trie.specs.Trie.{Ends, Meets, child, crits, link_number};
 
 use crate::bits::{bit_at, parting};
 use crate::patricia::Trie;
 use crate::place::Place;
-use crate::row::Link;
+use crate::row::{Link, TrieRow};
 use dictionary::key::Key;
-use dictionary::refusals::Absent;
-use dictionary::rows::key_in;
 
 impl<'a, K: Key> Trie<'a, K> {
+    /// The rows that hold keys.
+    pub(crate) fn held(&self) -> &[TrieRow<K>]
+        ensures { result.now ≡ take self.now.used self.now.rows.now }
+    {
+        let rows = &*self.rows;
+        &rows[..self.used]
+    }
+
     /// The leaf where the walk for the key ends.
     fn seek(&self, k: &K) -> u32
         requires { 0 < self.now.used }
@@ -48,13 +53,5 @@ impl<'a, K: Key> Trie<'a, K> {
             None => Ok(leaf),
             Some(place) => Err(Some(place)),
         }
-    }
-
-    /// Key n.
-    pub(crate) fn at(&self, n: u32) -> Result<K, Absent>
-        ensures { result ≡ or_absent (key_of (keys self.now.rows.now self.now.used) n) }
-    {
-        let rows = &*self.rows;
-        key_in(&rows[..self.used], n)
     }
 }

@@ -9,7 +9,7 @@ use crate::row::colour_names;
 use crate::window::Window;
 use std::marker::Model;
 
-// An array and a length, as the window: nothing is allocated.
+// An array by value and its length, as the window: the old one is read while the new one is made.
 /// The colours of the first `len` places of a window; zeros stand past them.
 #[derive(Drop)]
 struct Colours {
