@@ -60,7 +60,7 @@ module _ {K : Type 0} {key : Ghosts K} {ord : _} {eq : _} {cmp : _} (same : (x y
   -- the key stands at the place
   pub met_here : order k k ≡ Equal → (i : ℕ) → slice_get ks i ≡ Some k → number_of order ks k ≡ Some (i + 1)
   met_here itself i is =
-      number_some order k ks (suc i) (λ j y at e. ap suc (one_place spelling t.rows.now t.used (link_number t.root) (within_rows t.long) (t.lefts, t.rights) t.rooted t.sound i j k is (at ∙ ap Some (sym (same k y e))))) i k is itself
+      number_some order k ks (suc i) (λ j y at e. ap suc (one_place spelling t.rows.now t.used (link_number t.root) (within_rows t.long) t.linked t.rooted t.sound i j k is (at ∙ ap Some (sym (same k y e))))) i k is itself
       ∙ ap Some (sym (add-one i))
 
   not_there : (d : ℕ) → PartsFrom rows spelling t.used (link_number t.root) k d → (i : ℕ) (y : K) → slice_get ks i ≡ Some y → order k y ≡ Equal → ⊥

@@ -46,7 +46,7 @@ module _ {K : Type 0} (spelling : K → List ℕ) (rows : List (TrieRow K)) (n r
 -- the same of a trie, by its ghost fields
 module _ {K : Type 0} {key : _} {ord : _} {eq : _} {cmp : _} (t : Trie K key ord eq cmp) where
   pub goods_in : (b : Bool) → Goods (crits t.rows.now) t.used (child t.rows.now b)
-  goods_in b = goods t.rows.now t.used (t.lefts, t.rights) b
+  goods_in b = goods t.rows.now t.used t.linked b
 
   pub held_in : (i : ℕ) (k : K) → slice_get (keys t.rows.now t.used) i ≡ Some k → i < t.used
   held_in i k e = held_below t.rows.now t.used (within_rows t.long) i k e

@@ -38,7 +38,7 @@ impl<'a, K: Key> Trie<'a, K> {
 impl<'a, K: Key> Dictionary<K> for Trie<'a, K> {
     ghost meaning = { meaning_of };
 
-    ghost different = { λ t. different_from (meaning_of t).keys (one_place K.Key.spelling t.rows.now t.used (link_number t.root) (within_rows t.long) (t.lefts, t.rights) t.rooted t.sound) };
+    ghost different = { λ t. different_from (meaning_of t).keys (one_place K.Key.spelling t.rows.now t.used (link_number t.root) (within_rows t.long) t.linked t.rooted t.sound) };
 
     ghost within = { λ t. held_within (λ w. w.key) t.rows.now t.used t.long };
 

@@ -1,7 +1,7 @@
 // The trie.
-ghost use Rattle.std.specs.Prelude.{◌^◌, ◌<◌, ◌≤◌, true, false, length};
+ghost use Rattle.std.specs.Prelude.{◌^◌, ◌<◌, ◌≤◌, length};
 ghost use Rattle.dictionary.specs.Meaning.{most};
-ghost use Rattle.trie.specs.Trie.{Goods, Rooted, Sound, child, crits, link_number};
+ghost use Rattle.trie.specs.Trie.{Linked, Rooted, Sound, link_number};
 
 use crate::row::{Link, TrieRow};
 use dictionary::key::Key;
@@ -18,8 +18,7 @@ pub struct Trie<'a, K: Key> {
     pub(crate) asks: u64,
     ghost long: { used ≤ most (length rows.now) },
     ghost counted: { asks < 2 ^ 64 },
-    ghost lefts: { Goods (crits rows.now) used (child rows.now false) },
-    ghost rights: { Goods (crits rows.now) used (child rows.now true) },
+    ghost linked: { Linked rows.now used },
     ghost rooted: { Rooted rows.now used (link_number root) },
     ghost sound: { Sound rows.now K.Key.spelling used (link_number root) },
 }
