@@ -5,7 +5,7 @@ use search_tree::TreeRow;
 use std::{fmt, io};
 use trie::TrieRow;
 
-// Calls and answers are another crate's types, so their `Display` stands on a struct of this one.
+// Calls and answers are another crate's types, and only here is a key a letter: so `Display` stands on a struct of this crate, with a function for each of the two.
 /// A call and the answer to it, as they are printed.
 #[derive(Drop)]
 struct Shown<'a> {

@@ -62,7 +62,7 @@ fn mark_starts(colours: &mut [u8])
     pass(colours, |place| place.mark());
 }
 
-// A line for each stage and no loop: so they are held against the rule.
+// A line for each stage: a loop over 5, 4, 3 would need an invariant that says which stages are done, and hide their order.
 /// The marks of a whole row, in a slice of its length.
 fn mark_row(names: &[u32], bytes: &mut [u8])
     requires { length names.now ≡ length bytes.old }

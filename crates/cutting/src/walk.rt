@@ -11,7 +11,7 @@ pub struct Block<'a> {
 }
 
 /// The place of the first mark.
-// A `for` with the index, and no `position`: so rows and their block starts are walked.
+// A `for` with the index, and no `position`: it is a rule of this project that a row and its block starts are walked so.
 fn first_mark(marks: &[u8]) -> Option<usize>
     ensures { MatchOption result (Zeros marks.now (length marks.now)) (λ i. (i < length marks.now) × Zeros marks.now i × (at marks.now i ≢ 0)) }
 {

@@ -41,6 +41,7 @@ pub fn replay<K: Key, D: Dictionary<K>>(
     }
 }
 
+// The rooms for the answers are the caller's memory too, one for each dictionary.
 /// Carries out a list of calls on two dictionaries, of whatever makes. If they mean the same, they answer alike.
 pub fn side_by_side<K: Key, D: Dictionary<K>, E: Dictionary<K>>(
     left: &mut D,

@@ -101,7 +101,7 @@ fn damaged_lines(rt: HostRuntime) -> Result<(), Fail> {
     let line = *b"S03-QF\tQ\t412500\t12\n";
     let damage = [0u8, 11, 13, 32, 47, 58, 64, 91, 127, 128, 255];
     is_read(&rt, &line, Kind::Quadrupole, 412_500, 12)?;
-    for i in 0..line.len() - 1 {
+    for i in 0..line.len() {
         for b in damage {
             let mut bad = line;
             bad[i] = b;

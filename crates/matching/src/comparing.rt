@@ -5,6 +5,7 @@ ghost use Rattle.matching.specs.Comparing.{Common};
 
 use lines::record::Record;
 
+// A function of its own, whose contract mirrors the chain: what it means is `common_prefix`'s.
 /// How many pairs, from the first on, are of equal records.
 fn equal_pairs(xs: &[Record], ys: &[Record]) -> usize
     ensures { result ≡ prefix_len (λ p. ⟦<Record as PartialEq>⟧.eq p.0 p.1) (zip xs.now ys.now) }

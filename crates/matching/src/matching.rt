@@ -51,8 +51,8 @@ fn refused(file: DeliveredFile, fault: FileFault) -> Outcome
     }
 }
 
-// The rows are the caller's memory, and a list is the front of them: a count says how far. Two matches and no `?`: what is wrong with a file is an outcome, and no error of
-// this function.
+// The rows are the caller's memory, and a list is the front of them: a count says how far.
+// Two matches and no `?`: what is wrong with a file is an outcome, and no error of this function.
 /// Reads both files into their rows, the magnet list first, and compares their lists.
 pub fn match_files(
     magnets: Option<&[u8]>,

@@ -31,7 +31,7 @@ impl<'a, K: Key> SearchTree<'a, K> {
     }
 }
 
-// The tree's and the trie's methods are alike, each over its own struct, whose fields they read.
+// The tree's and the trie's methods are alike, each over its own struct: a struct of what both have is not covered, as `search_tree/src/tree.rt` says.
 // The clauses `rows`, `beyond` and `lent` compare the rows before and after a call, which no ghost field can.
 impl<'a, K: Key> Dictionary<K> for SearchTree<'a, K> {
     ghost meaning = { meaning_of };
@@ -75,6 +75,7 @@ impl<'a, K: Key> Dictionary<K> for SearchTree<'a, K> {
             Ok(i) => return Ok(i + 1),
             Err(slot) => slot,
         };
+        // With the star: `self.size()` would be the method of a dictionary that is lent.
         let size = (*self).size();
         if size < (*self).capacity() {
             hang(self.rows, self.used, slot, k);

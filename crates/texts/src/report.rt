@@ -73,7 +73,7 @@ fn counted(word: &str, n: usize) -> ReportLine
     line
 }
 
-// By the number, since that is how the report's form says it.
+// By the number and not by the layer: the report's form names the refusals 1 and 2.
 /// The line that a refusal tells.
 fn line_told(fault: Fault) -> usize
     ensures { result ≡ line_told fault.number fault.place }

@@ -20,7 +20,7 @@ pub(crate) fn bit_at<K: Key>(k: &K, place: Place) -> bool
     bit_of(k.byte(place.byte), place.bit)
 }
 
-// A `for` over the numbers of the bytes and no chain: there is no slice of them, and `find_map` with the same test would be no shorter.
+// A `for` over the numbers of the bytes and no chain: there is no slice of them, and the closure of a `find_map` wants a contract of its own.
 /// The first place in which two spellings differ.
 pub(crate) fn parting<K: Key>(a: &K, b: &K) -> Option<Place>
     ensures { Parting (K.Key.spelling a.now) (K.Key.spelling b.now) result }

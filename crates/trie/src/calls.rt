@@ -33,7 +33,7 @@ impl<'a, K: Key> Trie<'a, K> {
     }
 }
 
-// The tree's and the trie's methods are alike, each over its own struct, whose fields they read.
+// The tree's and the trie's methods are alike, each over its own struct: a struct of what both have is not covered, as `search_tree/src/tree.rt` says.
 // The clauses `rows`, `beyond` and `lent` compare the rows before and after a call, which no ghost field can.
 impl<'a, K: Key> Dictionary<K> for Trie<'a, K> {
     ghost meaning = { meaning_of };

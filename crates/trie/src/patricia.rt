@@ -9,7 +9,8 @@ use dictionary::key::Key;
 /// A dictionary over lent rows, one key a row, that uses only the spelling of its keys. What it rests on is its ghost fields,
 /// so that a walk stays within the rows and ends, whatever they held before, and finds each key.
 // The rows are the caller's memory, and nothing here takes any: so there is a count of rows beside them, and links are row
-// numbers and no boxes. Rows, count and asks are no struct that the tree shares, as said in `search_tree/src/tree.rt`.
+// numbers and no boxes. Rows, count and asks are no struct that the tree shares, as said in `search_tree/src/tree.rt`. The root is no `Option`: while
+// no row is used nothing reads it, which the count says already.
 #[derive(Drop)]
 pub struct Trie<'a, K: Key> {
     pub(crate) rows: &'a mut [TrieRow<K>],
