@@ -1,6 +1,7 @@
 //! Line files: the line record and the reader of a file of lines.
 #![tactic(auto)]
 
+pub(crate) mod cut;
 pub mod faults;
 pub mod fields;
 pub mod kind;

@@ -1,7 +1,8 @@
 //! A line of the file: its fields, and its record.
 ghost use Rattle.std.specs.Prelude.{◌≡◌, ◌+◌, ◌^◌, ◌<◌, length, MatchOption};
 
-use crate::fields::{Field, Fields, Placed, cut_at};
+use crate::cut::cut_at;
+use crate::fields::{Field, Fields, Placed};
 use crate::parsing::record_of;
 use crate::record::Record;
 

@@ -5,8 +5,9 @@ ghost use Rattle.lines.specs.Layout.{Lawful};
 ghost use Rattle.lines.specs.Readers.{left, rest, Leads, FieldsOf, Stepped, ReadAll, reading_of};
 ghost use Rattle.lines.specs.Peeks.{Peeked};
 
+use crate::cut::cut_at;
 use crate::faults::LineFault;
-use crate::fields::{Fields, cut_at};
+use crate::fields::Fields;
 use crate::line::Line;
 use crate::reader::LineReader;
 use crate::record::Record;
