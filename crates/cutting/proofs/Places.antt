@@ -1,19 +1,23 @@
 -- What one place of a pass depends on: its colour and its neighbours'.
-use Rattle.std.proofs.Common.{◌≡◌, ℕ, zero, suc, ◌+◌, ◌%◌, ◌<◌, ◌≤◌, ◌≢◌, List, length, true, false, ◌&&◌, nat_le, nat_lt, Some, None, slice_get, MatchOption, sym, refl, ap, ◌∙◌, ⊎_elim, add-one, arith}
+use Rattle.std.proofs.Common.{◌≡◌, ℕ, zero, suc, ◌+◌, ◌%◌, ◌<◌, ◌≤◌, ◌==◌, cond, List, length, true, false, ◌&&◌, nat_le, nat_lt, Bool, Option, Some, None, slice_get, sym, refl, ap, ◌∙◌, ⊎_elim, add-one, arith}
 use Rattle.std.proofs.lemmas.Bool.Decides.{nat_tests}
-use Rattle.std.proofs.lemmas.Bool.{cases_lt, lt-ltb, le-ltb, eq-eqb, ne_eqb}
-use Rattle.std.proofs.lemmas.Option.{slice_get-get_or, slice_get_past, slice_get_within}
-use Rattle.cutting.specs.declared.place.Place.{Place}
+use Rattle.std.proofs.lemmas.Bool.{cases_lt, lt-ltb, le-ltb}
+use Rattle.std.proofs.lemmas.Option.{slice_get-get_or, slice_get_past}
 use Rattle.cutting.specs.Rule.{fresh, recolour, free, left, right, reduce, summit, peak}
 use Rattle.cutting.specs.Rows.{at}
-use Rattle.cutting.specs.Places.{near, earlier, place}
+use Rattle.cutting.specs.Places.{near, earlier}
 
 -- ---- the rule at a place of a list
 
-pub recolour_at : (xs : List ℕ) (i v : ℕ) → MatchOption (earlier xs i) (v ≡ at xs i % 2) (λ b. v ≡ fresh b (at xs i)) → v ≡ recolour (at xs) i
+-- the new colour of a place of colour o, by its left neighbour's
+abbrev pub recoloured_after : ℕ → Option ℕ → ℕ
+recoloured_after o None = o % 2
+recoloured_after o (Some l) = fresh l o
+
+pub recolour_at : (xs : List ℕ) (i : ℕ) → recolour (at xs) i ≡ recoloured_after (at xs i) (earlier xs i)
 unfolding recolour
-recolour_at xs zero v h = h
-recolour_at xs (suc i) v h = h
+recolour_at xs zero = refl
+recolour_at xs (suc i) = refl
 
 left_near : (xs : List ℕ) (i : ℕ) → near (earlier xs i) ≡ left (at xs) i
 unfolding left
@@ -33,53 +37,23 @@ right_near xs i =
     ⊎_elim (λ (l : i + 1 < length xs). ap near (slice_get-get_or xs (i + 1) 0 l) ∙ sym (right_some (length xs) (at xs) i l))
     (λ (l : length xs ≤ i + 1). ap near (slice_get_past xs (i + 1) l) ∙ sym (right_none (length xs) (at xs) i l)) (cases_lt (i + 1) (length xs))
 
--- which neighbours a place has
-none_before : (xs : List ℕ) (i : ℕ) → earlier xs i ≡ None → i ≡ 0
-none_before xs zero h = refl
-none_before xs (suc i) h = cc
+pub reduce_at : (xs : List ℕ) (i k : ℕ)
+    → reduce (length xs) k (at xs) i ≡ cond (at xs i == k) (free (near (earlier xs i)) (near (slice_get xs (i + 1)))) (at xs i)
+unfolding reduce
+reduce_at xs i k = rw (left_near xs i, right_near xs i)
 
-some_before : (xs : List ℕ) (i b : ℕ) → earlier xs i ≡ Some b → 0 < i
-some_before xs zero b h = cc
-some_before xs (suc i) b h = omega arith
+-- whether a block begins at place i, which has the colour o, by its neighbours' colours
+abbrev pub summit_between : ℕ → ℕ → Option ℕ → Option ℕ → Bool
+summit_between i o None r = true
+summit_between i o (Some l) None = false
+summit_between i o (Some l) (Some r) = nat_le 2 i && (nat_lt l o && nat_lt r o)
 
-none_after : (xs : List ℕ) (i : ℕ) → slice_get xs (i + 1) ≡ None → length xs ≤ i + 1
-none_after xs i h =
-    ⊎_elim (λ (l : i + 1 < length xs). let s = slice_get-get_or xs (i + 1) 0 l in cc) (λ (l : length xs ≤ i + 1). l) (cases_lt (i + 1) (length xs))
-
--- p is place i of xs
-module _ (p : Place) (xs : List ℕ) (i : ℕ) (e : p ≡ place xs i) where
-  pub reduce_kept : (k : ℕ) → p.own ≢ k → p.own ≡ reduce (length xs) k (at xs) i
-  unfolding reduce
-  reduce_kept k ne = let o : p.own ≡ at xs i = ap (λ p. p.own) e in rw (ne_eqb (at xs i) k (rw o at ne)) o
-
-  pub reduce_here : (k : ℕ) → p.own ≡ k → free (near p.before) (near p.after) ≡ reduce (length xs) k (at xs) i
-  unfolding reduce
-  reduce_here k h =
-      let l : near p.before ≡ left (at xs) i = ap (λ p. near p.before) e ∙ left_near xs i in
-      let r : near p.after ≡ right (length xs) (at xs) i = ap (λ p. near p.after) e ∙ right_near xs i in
-      let o : at xs i ≡ k = sym (ap (λ p. p.own) e) ∙ h in
-      rw (l, r, eq-eqb (at xs i) k o)
-
-  pub peak_first : p.before ≡ None → true ≡ peak (length xs) (at xs) i
-  unfolding peak
-  peak_first h = let z : i ≡ 0 = none_before xs i (cc) in rw z
-
-  pub peak_last : (b : ℕ) → p.before ≡ Some b → p.after ≡ None → false ≡ peak (length xs) (at xs) i
-  unfolding peak
-  peak_last b h a =
-      let z : 0 < i = some_before xs i b (cc) in
-      let l : length xs ≤ i + 1 = none_after xs i (cc) in
-      grind (arith, nat_tests)
-
-  pub peak_inner : (b a : ℕ) → p.before ≡ Some b → p.after ≡ Some a
-      → (nat_le 2 p.index && (nat_lt b p.own && nat_lt a p.own)) ≡ peak (length xs) (at xs) i
-  unfolding peak
-  peak_inner b a h k =
-      let z : 0 < i = some_before xs i b (cc) in
-      let m : i + 1 < length xs = slice_get_within xs (i + 1) a (cc) in
-      let l : b ≡ left (at xs) i = ap near (sym h) ∙ ap (λ p. near p.before) e ∙ left_near xs i in
-      let r : a ≡ right (length xs) (at xs) i = ap near (sym k) ∙ ap (λ p. near p.after) e ∙ right_near xs i in
-      rw (← l, ← r, e) (grind (arith, nat_tests))
+pub peak_at : (xs : List ℕ) (i : ℕ) → peak (length xs) (at xs) i ≡ summit_between i (at xs i) (earlier xs i) (slice_get xs (i + 1))
+unfolding peak left
+peak_at xs zero = refl
+peak_at xs (suc i) =
+    ⊎_elim (λ (l : suc i + 1 < length xs). rw (right_some (length xs) (at xs) (suc i) l, slice_get-get_or xs (suc i + 1) 0 l) (grind (arith, nat_tests)))
+    (λ (l : length xs ≤ suc i + 1). rw (slice_get_past xs (suc i + 1) l) (grind (arith, nat_tests))) (cases_lt (suc i + 1) (length xs))
 
 -- ---- two rows
 

@@ -4,6 +4,7 @@ ghost use Rattle.cutting.specs.Places.{near};
 ghost use Rattle.cutting.specs.Rule.{bit, free, fresh, lowest};
 
 /// The number of the lowest bit in which `x` and `y` differ.
+#[tactic(auto, using(crate::proofs::Machine::trailing_lowest, crate::proofs::Machine::trailing_lt))]
 fn lowest_difference(x: u32, y: u32) -> u32
     requires { x ≢ y }
     ensures is { result ≡ lowest 32 x y }
@@ -13,6 +14,7 @@ fn lowest_difference(x: u32, y: u32) -> u32
 }
 
 /// Bit `b` of `x`.
+#[tactic(auto, using(crate::proofs::Machine::bit_is))]
 fn bit_of(x: u32, b: u32) -> u32
     requires { b < 32 }
     ensures is { result ≡ bit b x }
@@ -24,6 +26,7 @@ fn bit_of(x: u32, b: u32) -> u32
 /// The new colour of a place with colour `own` whose left neighbour has colour `before`: twice the number of the lowest bit in which they differ, and that
 /// bit of `own`. Equal neighbours, of which the rule says nothing, give 64.
 // 64 and no Option: the marks are those of the rule for every row, and a colour is wanted at each place.
+#[tactic(auto, using(crate::proofs::Machine::equal_neighbours))]
 fn fresh_colour(before: u32, own: u32) -> u8
     ensures { result ≡ fresh before own }
 {

@@ -30,6 +30,7 @@ impl Place {
     }
 
     /// The new colour in a later recolouring.
+    #[tactic(auto, using(std::proofs::lemmas::Grind::common_steps, crate::proofs::Places::recolour_at))]
     pub(crate) fn recoloured(self) -> u8
         ensures { Ruled (λ xs. recolour (at xs)) self result }
     {
@@ -37,6 +38,7 @@ impl Place {
     }
 
     /// The new colour in the reduction of colour `k`: one that no neighbour has, if the place has colour `k`.
+    #[tactic(auto, using(std::proofs::lemmas::Bool::Decides::nat_tests, crate::proofs::Places::reduce_at))]
     pub(crate) fn reduced(self, k: u8) -> u8
         ensures { Ruled (λ xs. reduce (length xs) k (at xs)) self result }
     {
@@ -48,6 +50,7 @@ impl Place {
     }
 
     /// Whether a block begins here: at place 0, and where the colour exceeds both neighbours', but for place 1 and the last place.
+    #[tactic(auto, using(std::proofs::lemmas::Bool::Decides::nat_tests, crate::proofs::Places::peak_at))]
     fn begins_block(self) -> bool
         ensures { Ruled (λ xs. peak (length xs) (at xs)) self result }
     {

@@ -1,6 +1,9 @@
 //! Matches the two files of a sector, `magnets.txt` and `interlock.txt`, and prints one line.
 #![tactic(auto)]
 
+ghost use Rattle.std.specs.Prelude.{◌≡◌, ◌≤◌, length, take, IfSome};
+ghost use Rattle.std.specs.Option.{option_map};
+
 use lines::record::Record;
 use matching::matching::match_files;
 use std::fs::File;
@@ -14,8 +17,10 @@ const SPACE: usize = 4097;
 /// How many rows there are for each file.
 const ROWS: usize = 128;
 
-/// Reads a file from its start, as far as there is space, and answers what was read; none where it cannot be opened or read.
-fn load<'a>(rt: &HostRuntime, path: &str, space: &'a mut [u8; SPACE]) -> Option<&'a [u8]> {
+/// Reads a file from its start, as far as there is space, and answers how many bytes; none where it cannot be opened or read.
+fn fill(rt: &HostRuntime, path: &str, space: &mut [u8; SPACE]) -> Option<usize>
+    ensures { IfSome result (λ n. n ≤ 4097) }
+{
     let mut file = File::open(rt, path).ok()?;
     // No heap, so the bytes go into fixed space and are counted.
     let mut used = 0;
@@ -26,7 +31,23 @@ fn load<'a>(rt: &HostRuntime, path: &str, space: &'a mut [u8; SPACE]) -> Option<
         }
         used += n;
     }
-    Some(&space[..used])
+    Some(used)
+}
+
+/// The bytes that were read: the front of the space.
+fn front(space: &[u8; SPACE], read: Option<usize>) -> Option<&[u8]>
+    requires { IfSome read (λ n. n ≤ 4097) }
+    ensures { option_map (λ x. x.now) result ≡ option_map (λ n. take n space.now) read }
+{
+    read.map(|used| &space[..used])
+}
+
+/// What was read of a file, from its start; none where it cannot be opened or read.
+fn load<'a>(rt: &HostRuntime, path: &str, space: &'a mut [u8; SPACE]) -> Option<&'a [u8]>
+    ensures { IfSome result (λ bytes. length bytes.now ≤ 4097) }
+{
+    let read = fill(rt, path, space);
+    front(space, read)
 }
 
 fn main(rt: HostRuntime) -> io::Result<()> {

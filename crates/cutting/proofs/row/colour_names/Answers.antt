@@ -1,4 +1,4 @@
-use Rattle.std.proofs.Common.{◌≡◌, length, add-one, arith}
+use Rattle.std.proofs.Common.{length, add-one, arith}
 use Rattle.std.proofs.lemmas.Grind.{common_steps}
 use Rattle.cutting.specs.Rule.{recolour}
 use Rattle.cutting.specs.Rows.{at}
@@ -8,11 +8,7 @@ use Rattle.cutting.proofs.Places.{recolour_at}
 use Rattle.cutting.proofs.row.colour_names.Goals as goal
 
 pub loop-i-preserved : goal.loop-i-preserved
-loop-i-preserved c =
-    let xs = c.args.names.now in
-    let i = c.loop-i.i in
-    let new : c.recoloured.result ≡ recolour (at xs) i = recolour_at xs i c.recoloured.result (rw c.loop-i.invariant.0 at c.recoloured.ensures) in
-    (rw (add-one i), λ k l. grind (arith, common_steps))
+loop-i-preserved c = (rw (add-one c.loop-i.i), λ k l. grind (arith, common_steps, recolour_at))
 
 pub returns : goal.returns
 unfolding coloured
