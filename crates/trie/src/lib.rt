@@ -10,6 +10,7 @@ mod graft;
 mod hook;
 mod insert;
 mod look_up;
+mod packed;
 pub mod patricia;
 pub mod place;
 pub mod row;
