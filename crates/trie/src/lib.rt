@@ -9,6 +9,7 @@ pub mod calls;
 mod graft;
 mod hook;
 mod insert;
+pub mod laws;
 mod look_up;
 mod packed;
 pub mod patricia;
