@@ -1,10 +1,10 @@
 -- The search tree in the rows, as the code has them. Assumes nothing.
-use Rattle.std.proofs.Common.{◌≡◌, ℕ, suc, ◌+◌, ◌<◌, ◌≤◌, Ok, Err, Result, ◌⊎◌, List, [], ◌∷◌, ◌++◌, length, get_or, drop, set, Some, None, Ordering, Equal, sym, ap, ◌∙◌, subst, inl, inr, ⊎_elim, add-one, arith}
+use Rattle.std.proofs.Common.{◌≡◌, ℕ, suc, ◌+◌, ◌<◌, ◌≤◌, Ok, Err, Result, ◌⊎◌, List, [], ◌∷◌, ◌++◌, length, get_or, drop, set, Some, Ordering, Equal, sym, ap, ◌∙◌, subst, inl, inr, ⊎_elim, add-one, arith}
 use Rattle.std.specs.List.{slice_get}
 use Rattle.std.proofs.lemmas.List.{length-set, drop-set-lt}
 use Rattle.std.proofs.lemmas.Bool.{cases_lt, cases_eq}
 use Rattle.dictionary.specs.Rows.{column}
-use Rattle.search_tree.specs.Tree.{link, Links, root, walk, found, turns, sought, keys, lefts, rights, Linked, InOrder, ends}
+use Rattle.search_tree.specs.Tree.{Links, root, walk, found, turns, sought, keys, lefts, rights, Linked, InOrder, ends}
 use Rattle.search_tree.specs.declared.row.TreeRow.{TreeRow}
 use Rattle.dictionary.specs.declared.rows.Slot.{Slot}
 use Rattle.dictionary.specs.declared.rows.Slot.TheVariants.{Root, Left, Right}
@@ -48,7 +48,7 @@ pub record Hung {K : Type 0} (order : K → K → Ordering) (rows : List (TreeRo
   pub rest : drop (n + 1) rows' ≡ drop (n + 1) rows
 
 -- A row for k at the end, and then at p a row v that differs from what stands there in a link at most.
-module _ {K : Type 0} (order : K → K → Ordering) (rows : List (TreeRow K)) (n : ℕ) (k : K) (itself : order k k ≡ Equal) (long : n < length rows) (links : Linked n rows) (reached : InOrder order n rows) (fresh : TreeRow K) (blank : (fresh.key ≡ k) × (fresh.left ≡ None) × (fresh.right ≡ None)) where
+module _ {K : Type 0} (order : K → K → Ordering) (rows : List (TreeRow K)) (n : ℕ) (k : K) (itself : order k k ≡ Equal) (long : n < length rows) (links : Linked n rows) (reached : InOrder order n rows) (fresh : TreeRow K) (blank : (fresh.key ≡ k) × (fresh.left.0 ≡ 0) × (fresh.right.0 ≡ 0)) where
   abbrev pub longer : List (TreeRow K)
   longer = set rows n fresh
 
@@ -84,8 +84,8 @@ module _ {K : Type 0} (order : K → K → Ordering) (rows : List (TreeRow K)) (
       (record {
         left_is = λ i h. absurd (omega arith);
         right_is = λ i h. absurd (omega arith);
-        left_new = column_same (λ w. link w.left) rows n fresh long ∙ ap link blank.1;
-        right_new = column_same (λ w. link w.right) rows n fresh long ∙ ap link blank.2;
+        left_new = column_same (λ w. w.left.0) rows n fresh long ∙ blank.1;
+        right_new = column_same (λ w. w.right.0) rows n fresh long ∙ blank.2;
         left_hung = λ i h. absurd (omega arith);
         right_hung = λ i h. absurd (omega arith);
       })
@@ -124,30 +124,30 @@ module _ {K : Type 0} (order : K → K → Ordering) (rows : List (TreeRow K)) (
         written_new : column f edited n ≡ 0
         written_new = column_other f longer p n v (λ e. absurd (omega (arith, free.0))) ∙ column_same f rows n fresh long ∙ none
 
-    pub hung_left : Err (Left p) ≡ ends order n rows k → link v.left ≡ suc n → v.right ≡ (get_or longer p d).right → Hung order rows n k edited
+    pub hung_left : Err (Left p) ≡ ends order n rows k → v.left.0 ≡ suc n → v.right ≡ (get_or longer p d).right → Hung order rows n k edited
     hung_left e written same-right =
         let empty : (p < n) × (lefts rows p ≡ 0) = free order rows n k long links (Left p) e in
         post edited (Left p) e
         (record {
-          left_is = written_old (λ w. link w.left) (ap link blank.1) empty written;
-          right_is = λ i h. inl (kept_old (λ w. link w.right) (ap link blank.2) (ap link same-right) i h);
-          left_new = written_new (λ w. link w.left) (ap link blank.1) empty written;
-          right_new = kept_new (λ w. link w.right) (ap link blank.2) (ap link same-right);
-          left_hung = λ i h t. let ip : i ≡ p = cc in ap (lefts edited) ip ∙ here (λ w. link w.left) (ap link blank.1) empty written;
+          left_is = written_old (λ w. w.left.0) blank.1 empty written;
+          right_is = λ i h. inl (kept_old (λ w. w.right.0) blank.2 (ap (λ l. l.0) same-right) i h);
+          left_new = written_new (λ w. w.left.0) blank.1 empty written;
+          right_new = kept_new (λ w. w.right.0) blank.2 (ap (λ l. l.0) same-right);
+          left_hung = λ i h t. let ip : i ≡ p = cc in ap (lefts edited) ip ∙ here (λ w. w.left.0) blank.1 empty written;
           right_hung = λ i h t. let z : ◌≡◌ {A = ℕ} 0 1 = cc in absurd (omega arith);
         })
         edited_keys (edited_rest empty.0)
 
-    pub hung_right : Err (Right p) ≡ ends order n rows k → link v.right ≡ suc n → v.left ≡ (get_or longer p d).left → Hung order rows n k edited
+    pub hung_right : Err (Right p) ≡ ends order n rows k → v.right.0 ≡ suc n → v.left ≡ (get_or longer p d).left → Hung order rows n k edited
     hung_right e written same_left =
         let empty : (p < n) × (rights rows p ≡ 0) = free order rows n k long links (Right p) e in
         post edited (Right p) e
         (record {
-          left_is = λ i h. inl (kept_old (λ w. link w.left) (ap link blank.1) (ap link same_left) i h);
-          right_is = written_old (λ w. link w.right) (ap link blank.2) empty written;
-          left_new = kept_new (λ w. link w.left) (ap link blank.1) (ap link same_left);
-          right_new = written_new (λ w. link w.right) (ap link blank.2) empty written;
+          left_is = λ i h. inl (kept_old (λ w. w.left.0) blank.1 (ap (λ l. l.0) same_left) i h);
+          right_is = written_old (λ w. w.right.0) blank.2 empty written;
+          left_new = kept_new (λ w. w.left.0) blank.1 (ap (λ l. l.0) same_left);
+          right_new = written_new (λ w. w.right.0) blank.2 empty written;
           left_hung = λ i h t. let z : ◌≡◌ {A = ℕ} 0 1 = cc in absurd (omega arith);
-          right_hung = λ i h t. let ip : i ≡ p = cc in ap (rights edited) ip ∙ here (λ w. link w.right) (ap link blank.2) empty written;
+          right_hung = λ i h t. let ip : i ≡ p = cc in ap (rights edited) ip ∙ here (λ w. w.right.0) blank.2 empty written;
         })
         edited_keys (edited_rest empty.0)

@@ -63,27 +63,27 @@ module _ {K : Type 0} (order : K → K → Ordering) (rows : List (TreeRow K)) (
     turn_is : turns order (keys rows n) k i ≡ order k w.key
     turn_is = held_of (λ v. v.key) rows n i w long below is (order k) Equal
 
-    left_is : lefts rows i ≡ link w.left
-    left_is = column_at (λ v. link v.left) rows i w (omega (arith, below)) is
+    left_is : lefts rows i ≡ w.left.0
+    left_is = column_at (λ v. v.left.0) rows i w (omega (arith, below)) is
 
-    right_is : rights rows i ≡ link w.right
-    right_is = column_at (λ v. link v.right) rows i w (omega (arith, below)) is
+    right_is : rights rows i ≡ w.right.0
+    right_is = column_at (λ v. v.right.0) rows i w (omega (arith, below)) is
 
-    left_later : (link w.left ≤ n) × (0 < link w.left → i + 1 < link w.left)
+    left_later : (w.left.0 ≤ n) × (0 < w.left.0 → i + 1 < w.left.0)
     left_later = subst (λ q. (q ≤ n) × (0 < q → i + 1 < q)) left_is (let o = links i below in (o.0, o.1))
 
-    right_later : (link w.right ≤ n) × (0 < link w.right → i + 1 < link w.right)
+    right_later : (w.right.0 ≤ n) × (0 < w.right.0 → i + 1 < w.right.0)
     right_later = subst (λ q. (q ≤ n) × (0 < q → i + 1 < q)) right_is (let o = links i below in (o.2, o.3))
 
     -- one step, as the order turns it
-    step : (o : Ordering) → order k w.key ≡ o → (m : ℕ) → going (suc m) slot (suc i) ≡ pick o (going m (Left i) (link w.left)) (Ok i) (going m (Right i) (link w.right))
+    step : (o : Ordering) → order k w.key ≡ o → (m : ℕ) → going (suc m) slot (suc i) ≡ pick o (going m (Left i) w.left.0) (Ok i) (going m (Right i) w.right.0)
     step o e m = λ j. pick ((turn_is ∙ e) j) (going m (Left i) (left_is j)) (Ok i) (going m (Right i) (right_is j))
 
-    pub go_left : order k w.key ≡ Less → Resting (Left i) (link w.left)
-    go_left less = rest_on _ _ _ n slot i (Left i) (link w.left) (step Less less) left_later.0 left_later.1 r
+    pub go_left : order k w.key ≡ Less → (next : Option ℕ) → link next ≡ w.left.0 → Resting (Left i) (link next)
+    go_left less next e = subst (Resting (Left i)) (sym e) (rest_on _ _ _ n slot i (Left i) w.left.0 (step Less less) left_later.0 left_later.1 r)
 
-    pub go_right : order k w.key ≡ Greater → Resting (Right i) (link w.right)
-    go_right greater = rest_on _ _ _ n slot i (Right i) (link w.right) (step Greater greater) right_later.0 right_later.1 r
+    pub go_right : order k w.key ≡ Greater → (next : Option ℕ) → link next ≡ w.right.0 → Resting (Right i) (link next)
+    go_right greater next e = subst (Resting (Right i)) (sym e) (rest_on _ _ _ n slot i (Right i) w.right.0 (step Greater greater) right_later.0 right_later.1 r)
 
     pub stop_here : order k w.key ≡ Equal → Ok i ≡ ends order n rows k
     stop_here same = rest_here _ _ _ n slot i (turn_is ∙ same) r ∙ whole

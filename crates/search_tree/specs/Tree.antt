@@ -59,10 +59,10 @@ module _ {K : Type 0} where
   keys rows n = held (λ w. w.key) rows n
 
   abbrev pub lefts : List (TreeRow K) → ℕ → ℕ
-  lefts rows = column (λ w. link w.left) rows
+  lefts rows = column (λ w. w.left.0) rows
 
   abbrev pub rights : List (TreeRow K) → ℕ → ℕ
-  rights rows = column (λ w. link w.right) rows
+  rights rows = column (λ w. w.right.0) rows
 
   abbrev pub Linked : ℕ → List (TreeRow K) → Type 0
   Linked n rows = Links n (lefts rows) (rights rows)

@@ -3,6 +3,7 @@ ghost use Rattle.std.specs.Prelude.{◌≡◌, ◌+◌, ◌<◌, [], ◌∷◌, 
 ghost use Rattle.dictionary.specs.Meaning.{most};
 ghost use Rattle.search_tree.specs.Tree.{Linked, InOrder, ends, keys};
 
+use crate::link::Link;
 use crate::row::TreeRow;
 use dictionary::key::Key;
 use dictionary::rows::Slot;
@@ -20,7 +21,7 @@ pub(crate) fn hang<K: Key>(rows: &mut [TreeRow<K>], used: usize, slot: Slot, k: 
     ensures rest { drop (used + 1) rows.new ≡ drop (used + 1) rows.old }
 {
     rows[used] = TreeRow::blank(*k);
-    let link = Some(used as u32);
+    let link = Link::of(Some(used as u32));
     match slot {
         Slot::Root => {}
         Slot::Left(p) => rows[p as usize].left = link,

@@ -6,6 +6,7 @@ pub use tree::SearchTree;
 
 pub mod calls;
 mod hang;
+mod link;
 mod look_up;
 pub mod row;
 pub mod tree;

@@ -28,9 +28,9 @@ impl<'a, K: Key> SearchTree<'a, K> {
         while let Some(i) = at {
             let row = &held[i as usize];
             (slot, at) = match k.cmp(&row.key) {
-                Ordering::Less => (Slot::Left(i), row.left),
+                Ordering::Less => (Slot::Left(i), row.left.row()),
                 Ordering::Equal => return Ok(i),
-                Ordering::Greater => (Slot::Right(i), row.right),
+                Ordering::Greater => (Slot::Right(i), row.right.row()),
             };
         }
         Err(slot)

@@ -1,6 +1,7 @@
 // The rows of a search tree.
-ghost use Rattle.std.specs.Prelude.{◌≡◌, None};
+ghost use Rattle.std.specs.Prelude.{◌≡◌};
 
+use crate::link::Link;
 use dictionary::key::Key;
 use dictionary::rows::Row;
 
@@ -9,19 +10,22 @@ use dictionary::rows::Row;
 #[derive(Clone, Copy)]
 pub struct TreeRow<K> {
     pub(crate) key: K,
-    pub(crate) left: Option<u32>,
-    pub(crate) right: Option<u32>,
+    pub(crate) left: Link,
+    pub(crate) right: Link,
 }
+
+// A caller hands in millions of rows: a row is its key and two links of four bytes.
+const _: () = prove!(size_of::<TreeRow<u8>>() == 12);
 
 impl<K: Key> TreeRow<K> {
     /// A row to hand in: what it holds does not matter.
     pub fn blank(key: K) -> TreeRow<K>
-        ensures { (result.key ≡ key) × (result.left ≡ None) × (result.right ≡ None) }
+        ensures { (result.key ≡ key) × (result.left.0 ≡ 0) × (result.right.0 ≡ 0) }
     {
         TreeRow {
             key,
-            left: None,
-            right: None,
+            left: Link::of(None),
+            right: Link::of(None),
         }
     }
 }

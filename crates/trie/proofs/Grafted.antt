@@ -9,7 +9,7 @@ use Rattle.dictionary.specs.Meaning.{most}
 use Rattle.dictionary.specs.Rows.{column}
 use Rattle.dictionary.specs.declared.rows.Slot.{Slot}
 use Rattle.dictionary.specs.declared.rows.Slot.TheVariants.{Root, Left, Right}
-use Rattle.trie.specs.Trie.{link_number, Under, at, go, Ends, ends_at, ends_on, Good, Goods, Sorted, Hooked, InPlace, Linked, Rooted, Sound, PartsFrom, SideAt, SlotAt, Turned, bits_of, side, child, crits, keys}
+use Rattle.trie.specs.Trie.{link_number, unpacked, Under, at, go, Ends, ends_at, ends_on, Good, Goods, Sorted, Hooked, InPlace, Linked, Rooted, Sound, PartsFrom, SideAt, SlotAt, Turned, bits_of, side, child, crits, keys}
 use Rattle.trie.specs.TrieFacts.{goods}
 use Rattle.trie.specs.TrieMeaning.{Forks}
 use Rattle.trie.specs.declared.place.Place.{Place}
@@ -208,12 +208,12 @@ module _ {K : Type 0} {spelling : K → List ℕ} (rows : List (TrieRow K)) (n r
     pub right_at : (q : ℕ) → h.slot ≡ Right q → SideAt (child rows) (crits rows) n root x d true q L
     right_at q e = slot_is (Right q) e
 
-    pub at_left : (q : ℕ) → h.slot ≡ Left q → (d₀ v : TrieRow K) → v.key ≡ (get_or longer q d₀).key → v.place ≡ (get_or longer q d₀).place → v.right ≡ (get_or longer q d₀).right → link_number v.left ≡ 4294967296 + n → Grafted spelling rows n root k (set longer q v) root
+    pub at_left : (q : ℕ) → h.slot ≡ Left q → (d₀ v : TrieRow K) → v.key ≡ (get_or longer q d₀).key → v.place ≡ (get_or longer q d₀).place → v.right ≡ (get_or longer q d₀).right → unpacked v.left.0 ≡ 4294967296 + n → Grafted spelling rows n root k (set longer q v) root
     at_left q e d₀ v a b c l =
         let s = left_at q e in
-        at_side false q s d₀ v a b (ap link_number c) l (subst (Turned (child rows) (crits rows) n root (child (set longer q v)) root (4294967296 + n)) (sym e) (is_turned false q s d₀ v a b (ap link_number c) l))
+        at_side false q s d₀ v a b (ap (λ q. unpacked q.0) c) l (subst (Turned (child rows) (crits rows) n root (child (set longer q v)) root (4294967296 + n)) (sym e) (is_turned false q s d₀ v a b (ap (λ q. unpacked q.0) c) l))
 
-    pub at_right : (q : ℕ) → h.slot ≡ Right q → (d₀ v : TrieRow K) → v.key ≡ (get_or longer q d₀).key → v.place ≡ (get_or longer q d₀).place → v.left ≡ (get_or longer q d₀).left → link_number v.right ≡ 4294967296 + n → Grafted spelling rows n root k (set longer q v) root
+    pub at_right : (q : ℕ) → h.slot ≡ Right q → (d₀ v : TrieRow K) → v.key ≡ (get_or longer q d₀).key → v.place ≡ (get_or longer q d₀).place → v.left ≡ (get_or longer q d₀).left → unpacked v.right.0 ≡ 4294967296 + n → Grafted spelling rows n root k (set longer q v) root
     at_right q e d₀ v a b c l =
         let s = right_at q e in
-        at_side true q s d₀ v a b (ap link_number c) l (subst (Turned (child rows) (crits rows) n root (child (set longer q v)) root (4294967296 + n)) (sym e) (is_turned true q s d₀ v a b (ap link_number c) l))
+        at_side true q s d₀ v a b (ap (λ q. unpacked q.0) c) l (subst (Turned (child rows) (crits rows) n root (child (set longer q v)) root (4294967296 + n)) (sym e) (is_turned true q s d₀ v a b (ap (λ q. unpacked q.0) c) l))

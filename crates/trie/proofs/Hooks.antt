@@ -111,8 +111,8 @@ module _ {K : Type 0} {key : Ghosts K} {ord : _} {eq : _} {cmp : _} (t : Trie K 
       passes = λ j r. step_on t x here i w (ap link_number e) is h.good b e₁ j (h.passes j r);
     }
 
-    pub hook_left : number w.place ≤ d → x (number w.place) ≡ false → Here (Left i) (side false w)
-    hook_left early e₁ = subst (λ q. Here (Left q) (side false w)) (m_is t x here i w (ap link_number e) is h.good) (on false _ e₁ (side_at false early e₁) (way_left (child rows) (crits rows) t.used (link_number t.root) x d (goods_in t) here inside slot h.at h.way))
+    pub hook_left : number w.place ≤ d → x (number w.place) ≡ false → (l : ℕ) → l ≡ side false w → Here (Left i) l
+    hook_left early e₁ l to = subst (Here (Left i)) (sym to) (subst (λ q. Here (Left q) (side false w)) (m_is t x here i w (ap link_number e) is h.good) (on false _ e₁ (side_at false early e₁) (way_left (child rows) (crits rows) t.used (link_number t.root) x d (goods_in t) here inside slot h.at h.way)))
 
-    pub hook_right : number w.place ≤ d → x (number w.place) ≡ true → Here (Right i) (side true w)
-    hook_right early e₁ = subst (λ q. Here (Right q) (side true w)) (m_is t x here i w (ap link_number e) is h.good) (on true _ e₁ (side_at true early e₁) (way_right (child rows) (crits rows) t.used (link_number t.root) x d (goods_in t) here inside slot h.at h.way))
+    pub hook_right : number w.place ≤ d → x (number w.place) ≡ true → (l : ℕ) → l ≡ side true w → Here (Right i) l
+    hook_right early e₁ l to = subst (Here (Right i)) (sym to) (subst (λ q. Here (Right q) (side true w)) (m_is t x here i w (ap link_number e) is h.good) (on true _ e₁ (side_at true early e₁) (way_right (child rows) (crits rows) t.used (link_number t.root) x d (goods_in t) here inside slot h.at h.way)))

@@ -58,15 +58,15 @@ module _ {K : Type 0} {key : _} {ord : _} {eq : _} {cmp : _} (t : Trie K key ord
     pub good_on : (b : Bool) → Good (crits rows) t.used 0 (side b w)
     good_on b = let s = side_good b in (s.0, s.1, s.2, λ h. omega arith)
 
-    pub falls : (b : Bool) → to_go (side b w) < to_go here
-    falls b =
+    pub falls : (b : Bool) (l : ℕ) → l ≡ side b w → to_go l < to_go here
+    falls b l to =
         let c = crit_is in
         let p : w.place.bit < 8 = w.place.small in
         let q : w.place.byte < 2 ^ 64 = w.place.within in
         let s = side_good b in
         let later : 4294967296 ≤ side b w → crits rows m + 1 ≤ crits rows (side b w - 4294967296) = s.3 in
         let small : crits rows m < 2 ^ 67 = omega arith in
-        grind (arith, nat_tests)
+        subst (λ q. to_go q < to_go here) (sym to) (grind (arith, nat_tests))
 
     -- the walk for x goes to the side of its bit
     module _ (b : Bool) (tested : x (number w.place) ≡ b) where
@@ -83,8 +83,8 @@ module _ {K : Type 0} {key : _} {ord : _} {eq : _} {cmp : _} (t : Trie K key ord
       pub step_on : (j : ℕ) → EndsAt j here → EndsAt j (side b w)
       step_on j r = step_from j here refl r
 
-      pub go_on : ((j : ℕ) → EndsAt j here → EndsAt j (link_number t.root)) → Going (side b w)
-      go_on back = record { good = good_on b; back = λ j r. back j (step_back j r) }
+      pub go_on : ((j : ℕ) → EndsAt j here → EndsAt j (link_number t.root)) → (l : ℕ) → l ≡ side b w → Going l
+      go_on back l to = subst Going (sym to) (record { good = good_on b; back = λ j r. back j (step_back j r) })
 
   pub go_end : (l : Link) (i : ℕ) → l ≡ Leaf i → i < 4294967296 → Going (link_number l) → EndsAt i (link_number t.root)
   go_end l i e small g = g.back i (ends_at (link_number l) (let is = ap link_number e in omega arith) (ap link_number e))

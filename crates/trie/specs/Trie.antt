@@ -7,7 +7,7 @@
 --     Node      what an inner node says of the leaves under it
 --     Sorted    all nodes do, and each leaf lies under the root
 --     Sound     the same of rows, as the fact that a ghost field holds
-use Rattle.std.specs.Prelude.{◌≡◌, ℕ, ◌+◌, ◌-◌, ◌<◌, ◌≤◌, Bool, true, false, List, [], map, Some, None, Ok, Err, Option, Result, slice_index_or}
+use Rattle.std.specs.Prelude.{◌≡◌, ℕ, ◌+◌, ◌-◌, ◌<◌, ◌≤◌, Bool, true, false, if◌then◌else◌, nat_lt, List, [], map, Some, None, Ok, Err, Option, Result, slice_index_or}
 use Rattle.std.specs.List.{slice_get}
 use Rattle.trie.specs.Bits.{bit, number, PartAt}
 use Rattle.dictionary.specs.Rows.{held, column}
@@ -22,6 +22,14 @@ use Rattle.trie.specs.declared.row.Hook.{Hook}
 abbrev pub link_number : Link → ℕ
 link_number (Leaf i) = i
 link_number (Inner i) = i + 4294967296
+
+-- the same of a link as a row stores it: a leaf below 2 ^ 24, else 2 ^ 24 more than an inner node
+abbrev pub unpacked : ℕ → ℕ
+unpacked s = if nat_lt s 16777216 then s else s - 16777216 + 4294967296
+
+-- a link to one of 2 ^ 24 rows, which a row can store
+abbrev pub Fits : ℕ → Type 0
+Fits l = (l < 4294967296 → l < 16777216) × (4294967296 ≤ l → l - 4294967296 < 16777216)
 
 -- a link to one of n rows, and to an inner node only if that tests the bit `low` or a later one
 abbrev pub Good : (ℕ → ℕ) → ℕ → ℕ → ℕ → Type 0
@@ -92,8 +100,8 @@ module _ (child : Bool → ℕ → ℕ) (crit : ℕ → ℕ) (n root : ℕ) wher
 
 -- the same of rows as the code has them
 abbrev pub side : {K : Type 0} → Bool → TrieRow K → ℕ
-side false w = link_number w.left
-side true w = link_number w.right
+side false w = unpacked w.left.0
+side true w = unpacked w.right.0
 
 module _ {K : Type 0} (rows : List (TrieRow K)) where
   abbrev pub keys : ℕ → List K

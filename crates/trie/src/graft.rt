@@ -2,7 +2,7 @@
 ghost use Rattle.std.specs.Prelude.{◌≡◌, ◌+◌, ◌<◌, [], ◌∷◌, ◌++◌, length, drop};
 ghost use Rattle.dictionary.specs.Meaning.{most};
 ghost use Rattle.trie.specs.Bits.{bit, number};
-ghost use Rattle.trie.specs.Trie.{Hooked, Linked, PartsFrom, Rooted, Sound, child, crits, keys, link_number};
+ghost use Rattle.trie.specs.Trie.{Fits, Hooked, Linked, PartsFrom, Rooted, Sound, child, crits, keys, link_number};
 ghost use Rattle.trie.specs.TrieMeaning.{Forks};
 
 use crate::bits::bit_at;
@@ -14,14 +14,17 @@ use dictionary::rows::Slot;
 /// A row for the next key: its leaf, and an inner node that tests the place, with the leaf on the key's own side and the
 /// hook's link on the other.
 fn fork<K: Key>(next: u32, k: &K, place: Place, hook: Hook) -> TrieRow<K>
+    requires next { next < 16777216 }
+    requires link { Fits (link_number hook.link) }
     ensures { Forks K.Key.spelling next k.now place hook result }
 {
     let key = *k;
-    let leaf = Link::Leaf(next);
+    let leaf = Link::Leaf(next).packed();
+    let link = hook.link.packed();
     let (left, right) = if bit_at(k, place) {
-        (hook.link, leaf)
+        (link, leaf)
     } else {
-        (leaf, hook.link)
+        (leaf, link)
     };
     TrieRow {
         key,
@@ -58,8 +61,8 @@ pub(crate) fn graft<K: Key>(
     let node = Link::Inner(next);
     match hook.slot {
         Slot::Root => return node,
-        Slot::Left(p) => rows[p as usize].left = node,
-        Slot::Right(p) => rows[p as usize].right = node,
+        Slot::Left(p) => rows[p as usize].left = node.packed(),
+        Slot::Right(p) => rows[p as usize].right = node.packed(),
     }
     root
 }

@@ -33,9 +33,9 @@ impl<'a, K: Key> Trie<'a, K> {
                 return Hook { slot, link: at };
             }
             (slot, at) = if bit_at(k, row.place) {
-                (Slot::Right(i), row.right)
+                (Slot::Right(i), row.side(true))
             } else {
-                (Slot::Left(i), row.left)
+                (Slot::Left(i), row.side(false))
             };
         }
     }

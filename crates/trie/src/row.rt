@@ -1,8 +1,8 @@
 // The rows of a trie, and the links between them.
 ghost use Rattle.std.specs.Prelude.{◌≡◌};
 ghost use Rattle.trie.specs.Trie.{link_number, side};
-ghost use Rattle.trie.specs.declared.row.Link.TheVariants.{Leaf};
 
+use crate::packed::PackedLink;
 use crate::place::Place;
 use dictionary::key::Key;
 use dictionary::rows::{Row, Slot};
@@ -19,20 +19,23 @@ pub(crate) enum Link {
 pub struct TrieRow<K> {
     pub(crate) key: K,
     pub(crate) place: Place,
-    pub(crate) left: Link,
-    pub(crate) right: Link,
+    pub(crate) left: PackedLink,
+    pub(crate) right: PackedLink,
 }
+
+// A caller hands in millions of rows: a row is its key, a place of 16 bytes and two links of four.
+const _: () = prove!(size_of::<TrieRow<u8>>() == 32);
 
 impl<K: Key> TrieRow<K> {
     /// A row to hand in: what it holds does not matter.
     pub fn blank(key: K) -> TrieRow<K>
-        ensures { (result.key ≡ key) × (result.place.byte ≡ 0) × (result.place.bit ≡ 0) × (result.left ≡ Leaf 0) × (result.right ≡ Leaf 0) }
+        ensures { (result.key ≡ key) × (result.place.byte ≡ 0) × (result.place.bit ≡ 0) × (result.left.0 ≡ 0) × (result.right.0 ≡ 0) }
     {
         TrieRow {
             key,
             place: Place { byte: 0, bit: 0 },
-            left: Link::Leaf(0),
-            right: Link::Leaf(0),
+            left: Link::Leaf(0).packed(),
+            right: Link::Leaf(0).packed(),
         }
     }
 }
@@ -41,7 +44,11 @@ impl<K> TrieRow<K> {
     pub(crate) fn side(&self, right: bool) -> Link
         ensures { link_number result ≡ side right self.now }
     {
-        if right { self.right } else { self.left }
+        if right {
+            self.right.link()
+        } else {
+            self.left.link()
+        }
     }
 }
 

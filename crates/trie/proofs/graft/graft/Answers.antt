@@ -16,3 +16,6 @@ offset_bounds-rows-p g c = let below : c.in-Left.p < length c.args.rows.now = om
 
 pub offset_bounds-rows-p-in-Right : goal.offset_bounds-rows-p-in-Right
 offset_bounds-rows-p-in-Right g c = let below : c.in-Right.p < length c.args.rows.now = omega (arith, c.requires.room, (right_at _ _ _ c.fork.ensures c.requires.room c.requires.linked c.requires.rooted c.requires.sound c.requires.parts c.requires.hooked c.in-Right.p c.in-Right.is).1) in search rules
+
+pub offset_bounds-rows-used : goal.offset_bounds-rows-used
+offset_bounds-rows-used g c = let below : c.args.used < length c.args.rows.now = omega (arith, c.requires.room) in search rules
