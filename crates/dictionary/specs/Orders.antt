@@ -15,14 +15,6 @@ same_number x y e = subst (λ o. MatchOrdering o (x < y) (x ≡ y) (y < x)) e (r
 pub itself : {K : Type 0} (order : K → K → Ordering) → IsTotalOrder order → (x : K) → order x x ≡ Equal
 itself order t x = tied_itself t x
 
--- the order of a key type, which is what its comparison answers, is one of std's total orders, and says so too
-module _ {K : Type 0} (order : K → K → Ordering) {compared : K → K → Ordering} (ordered : (x y : K) → compared x y ≡ order x y) (t : IsTotalOrder compared) where
-  pub key_total : IsTotalOrder order
-  key_total = subst IsTotalOrder (λ i x y. ordered x y i) t
-
-  pub key_itself : (x : K) → order x x ≡ Equal
-  key_itself x = itself order key_total x
-
 -- an order of the parts that a value has
 pub by_parts : {K P : Type 0} (parts : K → P) {R : P → P → Ordering} (t : IsTotalOrder R) → IsTotalOrder (λ (x y : K). R (parts x) (parts y))
 by_parts parts t = record { antisymm = λ x y. t.antisymm (parts x) (parts y); trans = λ x y z. t.trans (parts x) (parts y) (parts z); congr = λ x y z. t.congr (parts x) (parts y) (parts z) }

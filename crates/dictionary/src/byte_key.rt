@@ -1,10 +1,12 @@
 // The byte as a key: ordered as a number, spelled as itself.
-ghost use Rattle.std.specs.Prelude.{[], ◌∷◌, refl};
+ghost use Rattle.std.specs.Prelude.{[], ◌∷◌};
 ghost use Rattle.std.specs.Ordering.{nat_cmp};
+ghost use Rattle.std.specs.Cmp.{nat_cmp_total};
 ghost use Rattle.dictionary.specs.Orders.{same_number};
 ghost use Rattle.std.proofs.Common.{rules};
 
 use crate::key::Key;
+use std::cmp::Ordering;
 
 impl Key for u8 {
     ghost order = { nat_cmp };
@@ -13,13 +15,17 @@ impl Key for u8 {
 
     ghost size = { 1 };
 
-    ghost ordered = { λ x y. refl };
+    ghost total = { nat_cmp_total };
 
     ghost same = { same_number };
 
     ghost long = { Prim.search rules };
 
     ghost apart = { Prim.search rules };
+
+    fn compare(&self, other: &u8) -> Ordering {
+        self.cmp(other)
+    }
 
     fn width() -> usize {
         1

@@ -2,16 +2,22 @@
 ghost use Rattle.std.specs.Prelude.{◌≡◌, ℕ, List, length, slice_index};
 ghost use Rattle.std.specs.declared.cmp.Ordering.TheVariants.{Equal};
 ghost use Rattle.std.specs.declared.cmp.Ordering.{Ordering as Order};
+ghost use Rattle.std.specs.Cmp.{IsTotalOrder};
+
+use std::cmp::Ordering;
 
 /// A value with an order and a spelling. The order is total and says equal exactly for the same value. A spelling has
 /// the same number of bytes for each value of the type, and different values have different spellings. Nothing ties
 /// the order to the spelling.
-pub trait Key: Copy + Ord {
+pub trait Key: Copy {
     ghost order: { Self → Self → Order };
 
     ghost spelling: { Self → List ℕ };
 
     ghost size: { ℕ };
+
+    fn compare(&self, other: &Self) -> Ordering
+        ensures { result ≡ order self.now other.now };
 
     /// The number of bytes in a spelling.
     fn width() -> usize
@@ -21,8 +27,8 @@ pub trait Key: Copy + Ord {
     fn byte(&self, i: usize) -> u8
         ensures { result ≡ slice_index (spelling self.now) i };
 
-    // What `cmp` answers, which is one of std's total orders.
-    ghost ordered: { (x y : Self) → Self.cmp x y ≡ order x y };
+    // One of std's total orders. It follows that a value is equal to itself.
+    ghost total: { IsTotalOrder order };
 
     ghost same: { (x y : Self) → order x y ≡ Equal → x ≡ y };
 

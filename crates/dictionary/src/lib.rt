@@ -25,6 +25,15 @@ pub mod worked;
 pub trait Dictionary<K: Key> {
     ghost meaning: { Self → Meaning K };
 
+    // The facts of every dictionary, which clauses can cite.
+    ghost different: { (d : Self) → Different (meaning d).keys };
+
+    ghost within: { (d : Self) → length (meaning d).keys ≤ (meaning d).capacity };
+
+    ghost small: { (d : Self) → (meaning d).capacity ≤ 16777216 };
+
+    ghost counted: { (d : Self) → (meaning d).asks < 2 ^ 64 };
+
     /// The number of keys. It is no ask, and neither are the next two.
     fn size(&self) -> u32
         ensures { result ≡ length (meaning self.now).keys };
@@ -46,13 +55,4 @@ pub trait Dictionary<K: Key> {
     /// Key n, or Absent.
     fn key(&mut self, n: u32) -> Result<K, Absent>
         ensures { Does meaning self.old self.new result (keying n) };
-
-    // What is true of every dictionary.
-    ghost different: { (d : Self) → Different (meaning d).keys };
-
-    ghost within: { (d : Self) → length (meaning d).keys ≤ (meaning d).capacity };
-
-    ghost small: { (d : Self) → (meaning d).capacity ≤ 16777216 };
-
-    ghost counted: { (d : Self) → (meaning d).asks < 2 ^ 64 };
 }

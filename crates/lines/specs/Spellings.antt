@@ -1,4 +1,4 @@
--- The laws of the line record as a key: its order and its spelling.
+-- The laws of the line record as a key.
 use Rattle.std.specs.Prelude.{◌≡◌, ℕ, suc, ◌+◌, ◌-◌, ◌<◌, ◌≤◌, [], ◌∷◌, ◌++◌, length, take, drop, slice_index}
 use Rattle.std.specs.declared.cmp.Ordering.TheVariants.{Equal}
 use Rattle.std.proofs.Common.{sym, ap, ◌∙◌, arith, length-append}
@@ -6,35 +6,12 @@ use Rattle.std.proofs.lemmas.List.{take_at, drop_at, get_or_append_left, get_or-
 use Rattle.dictionary.specs.Spelling.{four}
 use Rattle.dictionary.specs.Orders.{both_equal, same_number, same_list}
 use Rattle.dictionary.proofs.Spelling.{four_apart}
-use Rattle.std.specs.declared.cmp.Ordering.{Ordering}
-use Rattle.lines.specs.declared.kind.Kind.{Kind}
-use Rattle.lines.specs.declared.kind.Kind.TheVariants.{Dipole, Quadrupole, Sextupole, Steerer}
 use Rattle.lines.specs.declared.record.Record.{Record}
 use Rattle.lines.specs.Keys.{in_parts, in_order, behind, spelled}
 use Rattle.lines.specs.Kinds.{letter_of}
 use Rattle.lines.specs.Records.{same_record, same_kind}
 use Rattle.std.specs.Ordering.{nat_cmp, ordering_then}
 use Rattle.std.specs.Cmp.Lexicographic.{slice_cmp}
-
--- where kinds are compared by their letters: told of each pair, it holds of all
-module _ (compared : Kind → Kind → Ordering) where
-  abbrev pub LikeLetters : Kind → Kind → Type 0
-  LikeLetters k l = compared k l ≡ nat_cmp (letter_of k) (letter_of l)
-
-  abbrev pub FromKind : Kind → Type 0
-  FromKind k = LikeLetters k Dipole × LikeLetters k Quadrupole × LikeLetters k Sextupole × LikeLetters k Steerer
-
-  abbrev pub ByLetters : Type 0
-  ByLetters = FromKind Dipole × FromKind Quadrupole × FromKind Sextupole × FromKind Steerer
-
-  by_letters : ByLetters → (k l : Kind) → LikeLetters k l
-  by_letters h k l =
-      let row : FromKind k = elim k as FromKind [ Dipole ↦ h.0 | Quadrupole ↦ h.1 | Sextupole ↦ h.2 | Steerer ↦ h.3 ] in
-      elim l as (LikeLetters k) [ Dipole ↦ row.0 | Quadrupole ↦ row.1 | Sextupole ↦ row.2 | Steerer ↦ row.3 ]
-
--- records compared by their fields, with the kinds so compared, are in order
-pub fields_in_order : (compared : Kind → Kind → Ordering) → ByLetters compared → (x y : Record) → ordering_then (slice_cmp nat_cmp x.circuit y.circuit) (ordering_then (compared x.kind y.kind) (ordering_then (nat_cmp x.limit y.limit) (nat_cmp x.chain y.chain))) ≡ in_order x y
-fields_in_order compared h x y = ap (λ o. ordering_then (slice_cmp nat_cmp x.circuit y.circuit) (ordering_then o (ordering_then (nat_cmp x.limit y.limit) (nat_cmp x.chain y.chain)))) (by_letters compared h x.kind y.kind)
 
 pub same_key : (x y : Record) → in_order x y ≡ Equal → x ≡ y
 same_key x y h =

@@ -1,5 +1,6 @@
 //! Laws of line files and their records. The functions do nothing: their contracts are the laws.
 ghost use Rattle.std.specs.Prelude.{◌≡◌, Decides};
+ghost use Rattle.lines.specs.Keys.{in_order};
 ghost use Rattle.lines.specs.Laws.{ReadsBack, SameAnswer};
 ghost use Rattle.lines.specs.declared.record.Record.{Record as TheRecord};
 ghost use Rattle.lines.specs.Records.{same_fields};
@@ -20,4 +21,9 @@ pub fn refusal_decides()
 pub fn records_equal()
     ensures decides { (x y : TheRecord) → Decides (⟦<Record as PartialEq>⟧.eq x y) (x ≡ y) }
     ensures answers { (x y : TheRecord) → ⟦<Record as PartialEq>⟧.eq x y ≡ same_fields x y }
+{}
+
+/// The order that records derive is by circuit, kind letter, limit and chain.
+pub fn records_ordered()
+    ensures { (x y : TheRecord) → ⟦<Record as Ord>⟧.cmp x y ≡ in_order x y }
 {}

@@ -1,11 +1,13 @@
 //! The composition as a key of a dictionary, for any contents of its fields.
-ghost use Rattle.std.specs.Prelude.{◌≡◌, slice_index, refl};
+ghost use Rattle.std.specs.Prelude.{◌≡◌, slice_index};
+ghost use Rattle.std.specs.Cmp.{nat_cmp_total, then_total, on_total};
 ghost use Rattle.scheme.specs.Compositions.{in_order, numbers, spelled};
 ghost use Rattle.scheme.specs.Spellings.{same_key, spelled_long, spelled_apart};
 
 use crate::composition::Composition;
 use dictionary::four_bytes::byte_of;
 use dictionary::key::Key;
+use std::cmp::Ordering;
 
 /// Number j of those that are spelled in four bytes: the length, then p1 to p6.
 fn number(c: &Composition, j: usize) -> u32
@@ -22,13 +24,17 @@ impl Key for Composition {
 
     ghost size = { 30 };
 
-    ghost ordered = { λ x y. refl };
+    ghost total = { then_total (on_total (λ c. c.kind) nat_cmp_total) (then_total (on_total (λ c. c.round) nat_cmp_total) (then_total (on_total (λ c. c.length) nat_cmp_total) (then_total (on_total (λ c. c.p1) nat_cmp_total) (then_total (on_total (λ c. c.p2) nat_cmp_total) (then_total (on_total (λ c. c.p3) nat_cmp_total) (then_total (on_total (λ c. c.p4) nat_cmp_total) (then_total (on_total (λ c. c.p5) nat_cmp_total) (on_total (λ c. c.p6) nat_cmp_total)))))))) };
 
     ghost same = { same_key };
 
     ghost long = { spelled_long };
 
     ghost apart = { spelled_apart };
+
+    fn compare(&self, other: &Composition) -> Ordering {
+        self.cmp(other)
+    }
 
     fn width() -> usize {
         30

@@ -29,7 +29,7 @@ module _ {K : Type 0} (order : K → K → Ordering) (same : (x y : K) → order
       number_some order k ks (found (sought order ks left right k)) (only k) i (get_or ks i k) (slice_get-get_or ks i k r.1) (sym (get_or-map (order k) ks i k Equal r.1) ∙ r.0)
 
 -- the same of a tree: the answer r of the walk
-module _ {K : Type 0} {key : _} {ord : _} {eq : _} {cmp : _} (t : SearchTree K key ord eq cmp) (same : (x y : K) → key.order x y ≡ Equal → x ≡ y) (k : K) where
+module _ {K : Type 0} {key : _} (t : SearchTree K key) (same : (x y : K) → key.order x y ≡ Equal → x ≡ y) (k : K) where
   linked : Links (length (meaning_of t).keys) (lefts t.rows.now) (rights t.rows.now)
   linked = subst (λ m. Links m (lefts t.rows.now) (rights t.rows.now)) (sym (held_long (λ w. w.key) t.rows.now t.used (within_rows t.long))) t.links
 

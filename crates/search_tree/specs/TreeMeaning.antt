@@ -8,8 +8,8 @@ use Rattle.search_tree.specs.Tree.{keys, InOrder}
 use Rattle.search_tree.specs.declared.row.TreeRow.{TreeRow}
 use Rattle.search_tree.specs.declared.tree.SearchTree.{SearchTree}
 
--- a tree's type names what its keys' bounds say of them
-abbrev pub meaning_of : {K : Type 0} {key : _} {ord : _} {eq : _} {cmp : _} → SearchTree K key ord eq cmp → Meaning K
+-- a tree's type names what its keys' bound says of them
+abbrev pub meaning_of : {K : Type 0} {key : _} → SearchTree K key → Meaning K
 meaning_of t = meaning (keys t.rows.now t.used) (most (length t.rows.now)) t.asks
 
 -- a walk ends at one row, so no key stands at two places

@@ -27,7 +27,7 @@ impl<'a, K: Key> SearchTree<'a, K> {
         let mut at = if held.is_empty() { None } else { Some(0) };
         while let Some(i) = at {
             let row = &held[i as usize];
-            (slot, at) = match k.cmp(&row.key) {
+            (slot, at) = match k.compare(&row.key) {
                 Ordering::Less => (Slot::Left(i), row.left.row()),
                 Ordering::Equal => return Ok(i),
                 Ordering::Greater => (Slot::Right(i), row.right.row()),

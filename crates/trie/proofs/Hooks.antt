@@ -53,12 +53,12 @@ module _ (child : Bool → ℕ → ℕ) (crit : ℕ → ℕ) (n root : ℕ) (x :
       pub way_right : (slot : Slot) → SlotAt child crit n root x d slot here → Way child crit n root slot → Way child crit n root (Right m)
       way_right slot s way child' root' new i turned u = on_way child' root' new true turned slot s way i u
 
-module _ {K : Type 0} {key : _} {ord : _} {eq : _} {cmp : _} (t : Trie K key ord eq cmp) (x : ℕ → Bool) (d : ℕ) where
+module _ {K : Type 0} {key : _} (t : Trie K key) (x : ℕ → Bool) (d : ℕ) where
   abbrev pub Hooks : Slot → ℕ → Type 0
   Hooks = Hooking (child t.rows.now) (crits t.rows.now) t.used (link_number t.root) x d
 
 -- the same at a trie, on the way of a key that first differs at the bit d from the one that it meets
-module _ {K : Type 0} {key : Ghosts K} {ord : _} {eq : _} {cmp : _} (t : Trie K key ord eq cmp) (k : K) (d : ℕ) (parts : PartsFrom t.rows.now key.spelling t.used (link_number t.root) k d) where
+module _ {K : Type 0} {key : Ghosts K} (t : Trie K key) (k : K) (d : ℕ) (parts : PartsFrom t.rows.now key.spelling t.used (link_number t.root) k d) where
   abbrev rows : List (TrieRow K)
   rows = t.rows.now
 

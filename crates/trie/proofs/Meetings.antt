@@ -41,7 +41,7 @@ module _ (child : Bool → ℕ → ℕ) (crit : ℕ → ℕ) (bits : ℕ → ℕ
       let m = l - 4294967296 in
       (nodes m (good.1 inner, good.2 inner)).on (x (crit m)) j (ends_under child crit x j _ (on j l (x (crit m)) ends inner refl))
 
-module _ {K : Type 0} {key : Ghosts K} {ord : _} {eq : _} {cmp : _} (same : (x y : K) → key.order x y ≡ Equal → x ≡ y) (t : Trie K key ord eq cmp) (k : K) where
+module _ {K : Type 0} {key : Ghosts K} (same : (x y : K) → key.order x y ≡ Equal → x ≡ y) (t : Trie K key) (k : K) where
   abbrev order : K → K → Ordering
   order = key.order
 

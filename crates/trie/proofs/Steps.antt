@@ -10,7 +10,7 @@ use Rattle.trie.specs.declared.row.Link.TheVariants.{Leaf}
 use Rattle.trie.specs.declared.row.TrieRow.{TrieRow}
 use Rattle.dictionary.proofs.Held.{column_at}
 
-module _ {K : Type 0} {key : _} {ord : _} {eq : _} {cmp : _} (t : Trie K key ord eq cmp) (x : ℕ → Bool) where
+module _ {K : Type 0} {key : _} (t : Trie K key) (x : ℕ → Bool) where
   abbrev rows : List (TrieRow K)
   rows = t.rows.now
 

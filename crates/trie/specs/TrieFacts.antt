@@ -44,7 +44,7 @@ module _ {K : Type 0} (spelling : K → List ℕ) (rows : List (TrieRow K)) (n r
       (λ t. ap (λ s. bit s t) (bits_at spelling (keys rows n) i k e ∙ sym (bits_at spelling (keys rows n) j k e'))))
 
 -- the same of a trie, by its ghost fields
-module _ {K : Type 0} {key : _} {ord : _} {eq : _} {cmp : _} (t : Trie K key ord eq cmp) where
+module _ {K : Type 0} {key : _} (t : Trie K key) where
   pub goods_in : (b : Bool) → Goods (crits t.rows.now) t.used (child t.rows.now b)
   goods_in b = goods t.rows.now t.used t.linked b
 

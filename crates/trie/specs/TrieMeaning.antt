@@ -8,8 +8,8 @@ use Rattle.trie.specs.declared.place.Place.{Place}
 use Rattle.trie.specs.declared.row.Hook.{Hook}
 use Rattle.trie.specs.declared.row.TrieRow.{TrieRow}
 
--- what the bounds of K say of it belongs to the type of a trie
-abbrev pub meaning_of : {K : Type 0} {key : _} {ord : _} {eq : _} {cmp : _} → Trie K key ord eq cmp → Meaning K
+-- what the bound of K says of it belongs to the type of a trie
+abbrev pub meaning_of : {K : Type 0} {key : _} → Trie K key → Meaning K
 meaning_of t = meaning (keys t.rows.now t.used) (most (length t.rows.now)) t.asks
 
 -- a row for the next key, k, where n rows hold keys: its leaf, and an inner node that tests the place, with the leaf on the
