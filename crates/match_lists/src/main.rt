@@ -1,7 +1,7 @@
 //! Matches the two files of a sector, `magnets.txt` and `interlock.txt`, and prints one line.
 #![tactic(auto)]
 
-ghost use Rattle.std.specs.Prelude.{◌≡◌, ◌≤◌, length, take, IfSome};
+ghost use Rattle.std.specs.Prelude.{◌≡◌, ◌≤◌, take, IfSome};
 ghost use Rattle.std.specs.Option.{option_map};
 
 use lines::record::Record;
@@ -18,7 +18,7 @@ const SPACE: usize = 4097;
 const ROWS: usize = 128;
 
 /// Reads a file from its start, as far as there is space, and answers how many bytes; none where it cannot be opened or read.
-fn fill(rt: &HostRuntime, path: &str, space: &mut [u8; SPACE]) -> Option<usize>
+fn load(rt: &HostRuntime, path: &str, space: &mut [u8; SPACE]) -> Option<usize>
     ensures { IfSome result (λ n. n ≤ 4097) }
 {
     let mut file = File::open(rt, path).ok()?;
@@ -42,22 +42,16 @@ fn front(space: &[u8; SPACE], read: Option<usize>) -> Option<&[u8]>
     read.map(|used| &space[..used])
 }
 
-/// What was read of a file, from its start; none where it cannot be opened or read.
-fn load<'a>(rt: &HostRuntime, path: &str, space: &'a mut [u8; SPACE]) -> Option<&'a [u8]>
-    ensures { IfSome result (λ bytes. length bytes.now ≤ 4097) }
-{
-    let read = fill(rt, path, space);
-    front(space, read)
-}
-
 fn main(rt: HostRuntime) -> io::Result<()> {
     let mut magnets = [0u8; SPACE];
     let mut interlock = [0u8; SPACE];
+    let magnets_read = load(&rt, "magnets.txt", &mut magnets);
+    let interlock_read = load(&rt, "interlock.txt", &mut interlock);
     let mut magnet_rows = [Record::blank(); ROWS];
     let mut interlock_rows = [Record::blank(); ROWS];
     let outcome = match_files(
-        load(&rt, "magnets.txt", &mut magnets),
-        load(&rt, "interlock.txt", &mut interlock),
+        front(&magnets, magnets_read),
+        front(&interlock, interlock_read),
         &mut magnet_rows,
         &mut interlock_rows,
     );

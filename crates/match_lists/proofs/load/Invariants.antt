@@ -1,5 +1,5 @@
 use Rattle.std.proofs.Common.{◌-◌, ◌≤◌}
-use Rattle.match_lists.proofs.fill.Given as goal
+use Rattle.match_lists.proofs.load.Given as goal
 
 abbrev pub invariant-loop-used : goal.invariant-loop-used
 invariant-loop-used l = l.used ≤ 4097
